@@ -33,3 +33,6 @@ pub mod OnLines
 pub mod Growth
 pub mod Growing
 pub mod Ending
+pub mod AtOnce
+pub mod Wide
+pub mod LeftWide

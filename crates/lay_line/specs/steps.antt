@@ -12,3 +12,4 @@ pub mod Meeting
 pub mod Loading
 pub mod Entries
 pub mod Lining
+pub mod Leaping

@@ -21,6 +21,7 @@ use crate::containers::Container;
 use crate::entries::{add_entry, add_floats};
 use crate::extents::{LineExtent, height};
 use crate::held::Piece;
+use crate::leaps::Guess;
 use crate::line_content::{Content, add_content, content_left, line_box, place_waiting};
 use crate::loads::Load;
 use crate::meeting::{Met, Slot, floats_of, place_each};
@@ -44,6 +45,8 @@ pub struct SoFar<N> {
     pub opened: Vec<u32>,
     /// The last line's baseline.
     pub baseline: Option<N>,
+    /// How much text they took.
+    pub guess: Guess,
 }
 
 /// The same, with how many floats there are in place of them.
@@ -236,6 +239,7 @@ fn end_full<S: Steady>(
         floats: late.floats,
         opened: load.opened,
         baseline: Some(baseline),
+        guess: load.guess,
     }
 }
 
@@ -286,6 +290,7 @@ fn end_empty<S: Steady>(
         floats: met.floats,
         opened: load.opened,
         baseline: begun.baseline,
+        guess: load.guess,
     }
 }
 

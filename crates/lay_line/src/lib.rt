@@ -17,6 +17,7 @@ pub mod held;
 pub mod inline_extents;
 pub mod items;
 mod laws;
+pub mod leaps;
 pub mod line_content;
 pub mod lining;
 pub mod loads;

@@ -13,6 +13,7 @@ ghost use Rattle.lay_line.specs.LinesFit.{RestFits, LinesFit};
 ghost use Rattle.lay_line.specs.Lining.{so_far_at, next_of, laid_at};
 ghost use Rattle.lay_line.specs.Readings.{pieces_at, parts_at, entries_at};
 ghost use Rattle.lay_line.specs.steps.Content.{IsShort};
+ghost use Rattle.lay_line.specs.steps.Leaping.{AreWide};
 ghost use Rattle.lay_line.specs.steps.Lining.{laying};
 ghost use Rattle.lay_line.specs.steps.Marks.{marks as marks_of};
 
@@ -22,6 +23,7 @@ use crate::content::content;
 use crate::endings::{Begun, FullLine, SoFar, end_line};
 use crate::held::{nothing, with_pieces};
 use crate::items::Item;
+use crate::leaps::Guess;
 use crate::loads::{fill, tallest};
 use crate::meeting::Slot;
 use crate::openings::{Opening, first_load, meet_before};
@@ -56,7 +58,8 @@ fn next_line<'p, 'a, S: Steady>(
     cut: Cut<'p, 'a, S::Num>,
     entries: &mut List<Entry<S::Num>>,
 ) -> Next<'p, 'a, S::Num>
-    requires { cut.pieces.now ≡ cut.first.now ++ cut.rest.pieces.now }
+    requires parts { cut.pieces.now ≡ cut.first.now ++ cut.rest.pieces.now }
+    requires wide { (e : Reading) → IsTrue ((S.run calc.old).is_open e) → AreWide (pieces_at S.at cut.pieces.now e) }
     ensures goes { Goes (S.run calc.old) (S.run calc.new) }
     ensures after { (e : Reading) → IsTrue ((S.run calc.new).is_open e) → so_far_at S.at result.now e
         ≡ (next_of S.at frame.now now cut.entry e).0.after }
@@ -101,6 +104,7 @@ fn next_line<'p, 'a, S: Steady>(
         opened: begun.opened.as_slice(),
         first,
         held,
+        guess: now.guess,
     };
     let load = first_load(alloc, calc, container, &slot, opening);
     let filled = fill(alloc, calc, container, &slot, load, cut.rest);
@@ -128,6 +132,8 @@ fn lay<S: Steady>(
     stretches: Stretches<'_, '_, S::Num>,
     entries: &mut List<Entry<S::Num>>,
 ) -> SoFar<S::Num>
+    requires { (e : Reading) → IsTrue ((S.run calc.old).is_open e)
+        → AreWide (pieces_at S.at stretches.pieces.now e) }
     ensures goes { Goes (S.run calc.old) (S.run calc.new) }
     ensures after { (e : Reading) → IsTrue ((S.run calc.new).is_open e) → so_far_at S.at result e
         ≡ (laying (length stretches.entry.pieces.now) (context_at S.at frame.now.container.now e)
@@ -225,6 +231,11 @@ pub fn lines<S: Steady>(
         floats,
         opened: Vec::new(alloc),
         baseline: None,
+        guess: Guess {
+            line: 0,
+            fits: 0,
+            over: u64::MAX,
+        },
     };
     let frame = Frame { container, tall };
     let stretches = Stretches {

@@ -1,6 +1,7 @@
 //! How much a line holds, stretch by stretch (CSS 2.1, 9.4.2).
 ghost use Rattle.std.specs.Prelude.{◌≡◌, ◌≤◌, not, ◌==◌, pos, length, filter, IsTrue, IfOk, ⊤, ◌∷◌, []};
 ghost use Rattle.std.specs.List.{list_any};
+ghost use Rattle.viz_calc.specs.World.{Reading};
 ghost use Rattle.viz_calc.specs.Run.{Lays, LaysButMem};
 ghost use Rattle.layout_semantics.specs.LineHeights.{height_of_extent};
 ghost use Rattle.layout_semantics.specs.Lines.{opened_after};
@@ -8,6 +9,7 @@ ghost use Rattle.layout_semantics.specs.Stretches.{is_forced as is_forced_of};
 ghost use Rattle.lay_line.specs.Contexts.{context_at};
 ghost use Rattle.lay_line.specs.Items.{item_of, bare_of};
 ghost use Rattle.lay_line.specs.Readings.{held_at, line_extent_at, load_at, loaded_at, pieces_at, parts_at, slot_at};
+ghost use Rattle.lay_line.specs.steps.Leaping.{AreWide};
 ghost use Rattle.lay_line.specs.steps.Loading.{ahead_by, extending, with_reach as reach_with, with_reach_of, reaching, reaching_boxes, tallest_by, opened_by, loaded, takes_more as takes_in, loading};
 ghost use Rattle.lay_line.specs.steps.Words.{makes, strut_in};
 ghost use Rattle.viz_calc.specs.State.{AllSmall};
@@ -22,9 +24,10 @@ use crate::existence::makes_line;
 use crate::extents::{LineExtent, height, with_extent};
 use crate::held::{Held, Piece, with_pieces};
 use crate::items::{Item, is_forced};
+use crate::leaps::{Guess, leap_on};
 use crate::meeting::{Met, Slot, fits, floats_of, meet_each};
 use crate::shifts::{reach, strut};
-use crate::stretches::{Stretches, cut_first};
+use crate::stretches::Stretches;
 use lay_width::limits::greater;
 use std::alloc::{AllocError, Global};
 use viz_base::BoxTree;
@@ -255,6 +258,8 @@ pub struct Load<N> {
     pub extent: LineExtent<N>,
     /// The inline boxes that are open behind it.
     pub opened: Vec<u32>,
+    /// How much text it may take.
+    pub guess: Guess,
 }
 
 /// A stretch that a line takes.
@@ -302,6 +307,7 @@ pub fn with_stretch<S: Steady>(
         met,
         extent,
         opened,
+        guess: load.guess,
     }
 }
 
@@ -353,7 +359,8 @@ pub struct Loaded<'p, 'a, N> {
     pub rest: Stretches<'p, 'a, N>,
 }
 
-/// Takes stretches one by one, as long as they fit.
+/// Takes stretches as long as they fit. Where several are words and spaces they are taken at once if the last of them
+/// fits: no word and no space is narrower than 0.
 pub fn fill<'p, 'a, S: Steady>(
     alloc: Global,
     calc: &mut S,
@@ -362,6 +369,8 @@ pub fn fill<'p, 'a, S: Steady>(
     start: Load<S::Num>,
     stretches: Stretches<'p, 'a, S::Num>,
 ) -> Loaded<'p, 'a, S::Num>
+    requires { (e : Reading) → IsTrue ((S.run calc.old).is_open e)
+        → AreWide (pieces_at S.at stretches.pieces.now e) }
     ensures { LaysButMem S.run calc.old calc.new (loaded_at S.at result)
         (λ e. loading (context_at S.at container.now e) (slot_at S.at slot.now e) (load_at S.at start e)
         (parts_at S.at stretches.entry e))
@@ -370,22 +379,30 @@ pub fn fill<'p, 'a, S: Steady>(
 {
     let mut load = start;
     let mut rest = stretches;
-    while let Some(cut) = cut_first(&rest) {
-        // A copy: where the stretch doesn't fit the line keeps what it held.
+    // How many stretches are taken at once: fewer after each refusal.
+    let mut most = rest.pieces.len();
+    while let Some(next) = leap_on(load.guess, &rest, most) {
+        // A copy: where the stretches don't fit the line keeps what it held.
         let before = copy_held(calc, &load.held);
-        let held = with_pieces(calc, before, cut.first);
+        let held = with_pieces(calc, before, next.first);
         if !takes_more(calc, container, slot, &load, &held) {
-            return Loaded { load, rest };
+            load.guess = load.guess.refused(next.size);
+            if next.count < 2 {
+                return Loaded { load, rest };
+            }
+            most = next.count - 1;
+            continue;
         }
         // Floats inside a stretch are met at its end, when it is known to stand on this line.
-        let floats = floats_of(alloc, calc, cut.first);
+        let floats = floats_of(alloc, calc, next.first);
         let taken = Taken {
-            part: cut.first,
+            part: next.first,
             floats: floats.as_slice(),
             held,
         };
         load = with_stretch(alloc, calc, container, slot, load, taken);
-        rest = cut.rest;
+        load.guess = load.guess.taken(next.size);
+        rest = next.rest;
     }
     Loaded { load, rest }
 }

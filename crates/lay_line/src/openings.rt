@@ -14,6 +14,7 @@ ghost use Rattle.lay_line.specs.steps.Loading.{bare};
 use crate::containers::Container;
 use crate::endings::Begun;
 use crate::held::{Held, Piece, nothing};
+use crate::leaps::{Guess, text_in};
 use crate::loads::{Load, Taken, ahead, extent_at_start, with_stretch};
 use crate::meeting::{Met, Slot, floats_of, place_each};
 use crate::shifts::strut;
@@ -32,6 +33,8 @@ pub struct Opening<'p, 'a, N> {
     pub first: &'p [Piece<'a, N>],
     /// What that takes.
     pub held: Held<N>,
+    /// How much text earlier lines took.
+    pub guess: Guess,
 }
 
 /// Boxes again.
@@ -107,6 +110,11 @@ pub fn first_load<S: Steady>(
         met: opening.met,
         extent,
         opened,
+        guess: Guess {
+            line: text_in(opening.first),
+            fits: opening.guess.fits,
+            over: opening.guess.over,
+        },
     };
     let first = opening.first;
     let (_, late) = first.split_at(ahead(container.tree, first));

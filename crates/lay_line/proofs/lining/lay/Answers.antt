@@ -1,21 +1,37 @@
-use Rattle.std.proofs.Common.{◌≡◌, ◌-◌, ◌+◌, ◌++◌, suc, List, [], length, sym, subst, ap, ◌∙◌, append-nil, arith}
+use Rattle.std.proofs.Common.{◌≡◌, ◌-◌, ◌+◌, ◌++◌, suc, List, [], length, sym, subst, ap, ◌∙◌, append-nil, arith, rules}
 use Rattle.viz_calc.specs.World.{Reading}
 use Rattle.layout_semantics.specs.Lines.{SoFar as SoFarOf}
 use Rattle.lay_line.specs.Contexts.{context_at}
 use Rattle.lay_line.specs.LinesFit.{RestFits}
 use Rattle.lay_line.specs.Lining.{so_far_at}
 use Rattle.lay_line.specs.Readings.{entries_at, parts_at, pieces_at}
+use Rattle.lay_line.specs.steps.Leaping.{AreWide}
 use Rattle.lay_line.specs.steps.Lining.{joined_parts, next_in}
 use Rattle.lay_line.specs.steps.Measured.{Measured}
 use Rattle.lay_line.proofs.Chains.{ChainButMem, next_but_mem}
 use Rattle.lay_line.proofs.Filling.{pieces_joined}
 use Rattle.lay_line.proofs.Growing.{rest_fits}
+use Rattle.lay_line.proofs.AtOnce.{wide_back}
+use Rattle.lay_line.proofs.LeftWide.{next_wide}
 use Rattle.lay_line.proofs.LoadSteps.{parts-same}
 use Rattle.lay_line.proofs.NextLines.{joined-read, shorter-read, after-next, added-next, after-none, added-none, after-all, added-all}
 use Rattle.lay_line.proofs.lining.lay.Goals as goal
 
+pub loop-line-init : goal.loop-line-init
+loop-line-init g c = record {
+  goes = search rules;
+  after = search rules;
+  added = search rules;
+  fits = search rules;
+  wide = c.requires;
+  cause = search rules;
+}
+
 pub next_line-next-requires : goal.next_line-next-requires
-next_line-next-requires g c = c.in-Some.ensures.1 ∙ c.in-Some.ensures.0.joined
+next_line-next-requires g c = record {
+  parts = c.in-Some.ensures.1 ∙ c.in-Some.ensures.0.joined;
+  wide = λ e o. subst (λ l. AreWide (pieces_at g.S.Steady.at l e)) (sym c.in-Some.ensures.1) (c.loop-line.invariant.wide e o);
+}
 
 pub loop-line-preserved : goal.loop-line-preserved
 loop-line-preserved g c =
@@ -47,6 +63,13 @@ loop-line-preserved g c =
           (subst (λ (l : List (List Measured)). RestFits (ctx e) (tall e) (so_far_at at c.next_line-next.result.now e) (joined_parts l)) (sym (c.next_line-next.ensures.rest e o))
           (subst (λ (x : SoFarOf). RestFits (ctx e) (tall e) x (joined_parts (next_in (ctx e) (tall e) (so_far_at at c.loop-line.now e) first rest).1)) (sym (c.next_line-next.ensures.after e o))
           (rest_fits (ctx e) (tall e) (so_far_at at c.loop-line.now e) first rest fits fewer)));
+      wide = λ e o.
+          let o1 = c.next_line-next.ensures.goes.closes e o in
+          let joined = c.in-Some.ensures.0.joined in
+          let behind = wide_back (pieces_at at cut.first.now e) (pieces_at at cut.rest.pieces.now e) (subst AreWide (pieces_joined at e c.loop-line.rest.pieces.now cut.first.now cut.rest.pieces.now joined) (c.loop-line.invariant.wide e o1)) in
+          subst AreWide (joined-read at e c.next_line-next.result.rest)
+          (subst (λ l. AreWide (joined_parts l)) (sym (c.next_line-next.ensures.rest e o))
+          (next_wide (ctx e) (tall e) (so_far_at at c.loop-line.now e) (pieces_at at cut.first.now e) (parts_at at cut.rest e) (subst AreWide (sym (joined-read at e cut.rest)) behind)));
       after = λ e o.
           after-next (context_at at c.args.frame.now.container.now e) (at c.args.frame.now.tall e) (so_far_at at c.loop-line.now e) (count - (line + 1)) (count - line)
           (pieces_at at cut.first.now e) (parts_at at cut.rest e) (parts_at at c.loop-line.rest e) (so_far_at at c.next_line-next.result.now e) (parts_at at c.next_line-next.result.rest e)

@@ -5,6 +5,7 @@ use Rattle.lay_line.specs.Contexts.{context_at}
 use Rattle.lay_line.specs.LinesFit.{RestFits}
 use Rattle.lay_line.specs.Lining.{so_far_at}
 use Rattle.lay_line.specs.Readings.{pieces_at, parts_at, entries_at}
+use Rattle.lay_line.specs.steps.Leaping.{AreWide}
 use Rattle.lay_line.specs.steps.Lining.{laying}
 use Rattle.lay_line.proofs.lining.lay.Given as goal
 
@@ -23,6 +24,7 @@ invariant-loop-line g l =
       fits : (e : Reading) → IsTrue ((run l.calc).is_open e)
           → RestFits (context_at at l.frame.container.now e) (at l.frame.tall e) (so_far_at at l.initial.now e) (pieces_at at l.initial.rest.pieces.now e)
           → RestFits (context_at at l.frame.container.now e) (at l.frame.tall e) (so_far_at at l.now e) (pieces_at at l.rest.pieces.now e);
+      wide : (e : Reading) → IsTrue ((run l.calc).is_open e) → AreWide (pieces_at at l.rest.pieces.now e);
       cause : BlamesButMem (run l.initial.calc) (run l.calc) ((e : Reading) → IsTrue ((run l.initial.calc).is_open e)
           → RestFits (context_at at l.frame.container.now e) (at l.frame.tall e) (so_far_at at l.initial.now e) (pieces_at at l.initial.rest.pieces.now e));
     }

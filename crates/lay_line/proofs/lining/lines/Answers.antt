@@ -12,6 +12,7 @@ use Rattle.lay_line.specs.Fits.{WidthFits}
 use Rattle.lay_line.specs.LinesFit.{RestFits, LinesFit}
 use Rattle.lay_line.specs.Lining.{so_far_at}
 use Rattle.lay_line.specs.Readings.{pieces_at, parts_at, entries_at}
+use Rattle.lay_line.specs.steps.Leaping.{AreWide}
 use Rattle.lay_line.specs.steps.Lining.{laying}
 use Rattle.lay_line.specs.steps.Loading.{bare, tallest_by}
 use Rattle.lay_line.specs.steps.Marks.{marks}
@@ -21,8 +22,17 @@ use Rattle.lay_line.proofs.AllLines.{lines-laid, start_of}
 use Rattle.lay_line.proofs.Chains.{start_but_mem, next_but_mem, but_mem}
 use Rattle.lay_line.proofs.Growing.{tallest_fits, y_small, least_begins_small}
 use Rattle.lay_line.proofs.LoadSteps.{bare-same}
+use Rattle.lay_line.proofs.Wide.{items_wide}
 use Rattle.lay_line.proofs.Parts.{bare-measured}
 use Rattle.lay_line.proofs.lining.lines.Goals as goal
+
+pub lay-end-requires : goal.lay-end-requires
+lay-end-requires g c = λ e o.
+    let at = g.S.Steady.at in
+    let ctx = context_at at c.args.container.now e in
+    let o1 = c.tallest-tall.ensures.goes.closes e (c.copy.ensures.goes.closes e (c.copy-2.ensures.goes.closes e o)) in
+    let is = ap (λ ps. pieces_at at ps e) c.as_slice-4.ensures.value ∙ c.measure-pieces.ensures.value e (c.marks_in-marks.ensures.goes.closes e o1) in
+    subst AreWide (sym is) (items_wide ctx (items_of c.as_slice.result.now))
 
 pub returns : goal.returns
 unfolding context_at

@@ -11,6 +11,7 @@ use Rattle.layout_semantics.specs.LineFilling.{Met as MetOf}
 use Rattle.lay_line.specs.Limits.{HoldFits, RoomFits, FillFits}
 use Rattle.lay_line.specs.LinesFit.{FirstFits, Start, EndFits, RestFits}
 use Rattle.lay_line.specs.steps.Held.{Held, nothing_held}
+use Rattle.lay_line.specs.steps.Leaping.{AreWide}
 use Rattle.lay_line.specs.steps.Lining.{met_before, slot_for, first_load, joined_parts, taken}
 use Rattle.lay_line.specs.steps.Loading.{Load, loading}
 use Rattle.lay_line.specs.steps.Measured.{Measured, held_with}
@@ -18,9 +19,19 @@ use Rattle.lay_line.specs.steps.Meeting.{Slot, top_in}
 use Rattle.lay_line.proofs.Chains.{start_but_mem, next_but_mem, but_mem}
 use Rattle.lay_line.proofs.Filling.{pieces_joined}
 use Rattle.lay_line.proofs.Growing.{hold_fits, before_places, top_room, tall_small, least_small, first_fits, fill_fits, end_fits}
+use Rattle.lay_line.proofs.AtOnce.{wide_back}
 use Rattle.lay_line.proofs.NextLines.{joined-read, taken-read, slot-is, next-is}
 use Rattle.lay_line.proofs.OnLines.{zero_small}
 use Rattle.lay_line.proofs.lining.next_line.Goals as goal
+
+pub fill-filled-requires : goal.fill-filled-requires
+fill-filled-requires g c = λ e o.
+    let at = g.S.Steady.at in
+    let cut = c.args.cut in
+    let o1 = c.copy-least.ensures.goes.closes e (c.first_load-load.ensures.goes.closes e o) in
+    let o2 = c.meet_before-met.ensures.goes.closes e (c.line_top-top.ensures.goes.closes e (c.copy-tall.ensures.goes.closes e o1)) in
+    let o3 = c.nothing-start.ensures.goes.closes e (c.with_pieces-held.ensures.goes.closes e o2) in
+    wide_back (pieces_at at cut.first.now e) (pieces_at at cut.rest.pieces.now e) (subst AreWide (pieces_joined at e cut.pieces.now cut.first.now cut.rest.pieces.now c.requires.parts) (c.requires.wide e o3))
 
 pub returns : goal.returns
 returns g c =
@@ -52,7 +63,7 @@ returns g c =
     (c.copy-tall.ensures.value e o4) (c.copy-least.ensures.value e o3))
     (c.first_load-load.ensures.value e o2 ∙ ap (λ l. first_load ctx slot before l first held) c.as_slice-2.ensures.value)
     (c.fill-filled.ensures.value e o1)
-    (taken-read at e cut.pieces.now cut.first.now c.split_at.result.0.now cut.rest left c.saturating_sub-count.result c.requires c.saturating_sub-count.ensures c.split_at.ensures.front)) in
+    (taken-read at e cut.pieces.now cut.first.now c.split_at.result.0.now cut.rest left c.saturating_sub-count.result c.requires.parts c.saturating_sub-count.ensures c.split_at.ensures.front)) in
     let g1 = Goes-then _ _ _ c.nothing-start.ensures.goes c.with_pieces-held.ensures.goes in
     let g2 = Goes-then _ _ _ g1 c.meet_before-met.ensures.goes in
     let g3 = Goes-then _ _ _ g2 c.line_top-top.ensures.goes in
@@ -80,7 +91,7 @@ returns g c =
     let the_load = (λ (e : Reading). first_load (ctx e) (the_slot e) (the_met e) (so_far e).opened (first e) (the_held e)) in
     let asks = (λ (e : Reading). RestFits (ctx e) (tall e) (so_far e) (pieces_at at cut.pieces.now e)) in
     let whole = (λ (e : Reading) (r : asks e). subst (λ (l : List Measured). RestFits (ctx e) (tall e) (so_far e) l)
-    (pieces_joined at e cut.pieces.now cut.first.now cut.rest.pieces.now c.requires ∙ ap (λ l. first e ++ l) (sym (joined-read at e cut.rest))) r) in
+    (pieces_joined at e cut.pieces.now cut.first.now cut.rest.pieces.now c.requires.parts ∙ ap (λ l. first e ++ l) (sym (joined-read at e cut.rest))) r) in
     let held_is = (λ (e : Reading) (o : IsTrue ((run c.with_pieces-held.new.calc).is_open e)). held.value e o ∙ ap (λ h. held_with h (first e)) (nothing.value e (held.goes.closes e o))) in
     let slot_is = (λ (e : Reading) (o : IsTrue ((run c.copy-least.new.self).is_open e)).
     let o1 = least.goes.closes e o in
@@ -108,7 +119,7 @@ returns g c =
     ∙ (ap (λ x. loading (ctx e) x (load_at at c.first_load-load.result e) (rest e)) (slot_is e (load.goes.closes e o1))
     ∙ ap (λ x. loading (ctx e) (the_slot e) x (rest e)) (load_is e o1))) in
     let items_is = (λ (e : Reading) (o : IsTrue ((run c.fill-filled.new.calc).is_open e)).
-    taken-read at e cut.pieces.now cut.first.now c.split_at.result.0.now cut.rest left c.saturating_sub-count.result c.requires c.saturating_sub-count.ensures c.split_at.ensures.front
+    taken-read at e cut.pieces.now cut.first.now c.split_at.result.0.now cut.rest left c.saturating_sub-count.result c.requires.parts c.saturating_sub-count.ensures c.split_at.ensures.front
     ∙ ap (λ (x : Load × List (List Measured)). taken (joined_parts (first e ∷ rest e)) (joined_parts x.1)) (full_is e o)) in
     let one = start_but_mem {asks = asks} nothing.goes (but_mem nothing.cause) (λ f e o. (zero_small, tt)) in
     let two = next_but_mem one held.goes (but_mem held.cause) (λ f e o.
