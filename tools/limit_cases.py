@@ -308,9 +308,10 @@ def leaves():
     halves = [answered("yes -23040 0:64", [4], (64, 1), 5), answered("no -23040 0:64", [4], (64, 1), 5)]
     split = "split -360 0:1\nleaf\n{}end\nleaf\n{}end\n"
     one = text_of("view.width >= 360px or view.width < 360px")
-    yield check(one, split.format(halves[0], halves[1] * 2))
-    yield check(one, split.format(halves[0], halves[1]), rejected("short 2"))
-    yield check(one, split.format(halves[0], halves[1] + halves[1].replace("64:0", "63:0")), rejected("line 2 1 3"))
+    # both comparisons are of one row, which is asked once
+    yield check(one, split.format(halves[0], halves[1]))
+    yield check(one, split.format(halves[0], halves[1] * 2), rejected("left 2 1"))
+    yield check(one, split.format(halves[0], halves[1].replace("64:0", "63:0")), rejected("line 2 0 3"))
     yield ["leaf", text_of("view.width >= 320px"), certificate("", f"leaf\n{least}end\n")], "Accepted"
     yield ["leaf", text_of("view.width >= 320px"), certificate("", f"leaf\n{least + most}end\n")], "Rejected(Left(0, 1))"
     yield ["leaf", text_of("view.width >= 320px"), certificate("", f"leaf\n{weak}end\n")], "Rejected(Line(0, 0, 3))"

@@ -241,6 +241,7 @@ SAYINGS = {
                "margin-right by the browser's computed value: 3, first node 10 div.row (0px, then 17px)"),
     "generated": ("display: table of generated content without text, which the profile refuses, as block", "content by the text that it comes to",
                   "no generated content where the browser makes none"),
+    "clearfix": ("display: table of generated content without text, which the profile refuses, as block: 6",),
     "generated-breaks": (":before as an element", "a line may break within a word"),
     "position": ("position by the browser's computed value",),
     "blocks": ("an inline box that holds blocks",),
@@ -288,6 +289,9 @@ def sayings():
         found = exported(browser, (TOP / "examples/sayings/spacing.html").as_uri(), textSpacing=True)
         yield "text spacing", ("0.12" in found["job"], elsewhere(found, folder)), (True, [])
         page = pathlib.Path(folder, "page.html")
+        page.write_text("<!DOCTYPE html><div><code><div><pre>One</pre></div><pre>Two</pre></code></div>", encoding="utf-8")
+        found = exported(browser, page.as_uri(), sizes=[12, 24])
+        yield "kept spaces in a font size that no number says", found["job"].count("white-space:nowrap"), 2
         page.write_text('<!DOCTYPE html><link rel="stylesheet" href="none.css"><p>A page.</p>', encoding="utf-8")
         told = "\n".join(exported(browser, page.as_uri())["lines"])
         yield "a missing sheet", "isn't there, so that the browser shows the page without it" in told, True

@@ -24,7 +24,8 @@ function called(node) {
   const attrs = of ? {id: of.id, class: of.getAttribute("class")} : node.attrs || {};
   const classes = (attrs.class || "").trim().split(/\s+/).filter(it => it);
   const name = `${of ? of.localName : node.tag}${attrs.id ? "#" + attrs.id.trim() : ""}${classes.map(it => "." + it).join("")}`;
-  return `node ${node.number} ${name}${of ? ":" + node.made : ""}`;
+  // a node has no number until all are said
+  return `${node.number === undefined ? "" : `node ${node.number} `}${name}${of ? ":" + node.made : ""}`;
 }
 
 const line = row => `  ${row.what}: ${row.count}, first ${row.example}`;

@@ -317,7 +317,9 @@ class Exporter {
     return node.wanted[at] = node.wanted[at] || (node.made ? wantedOfMade : wanted)(node, node.samples[at], this);
   }
   told(node, name, value) {
-    const table = MADE[node.made] && name === "display" && value === "block" && this.styleOf(node).display === "table";
+    const blank = MADE[node.made] && isBlank(node) && this.styleOf(node).display === "table";
+    const table = blank && name === "display" && value === "block";
+    if (blank && /^(?:overflow|width)$/.test(name)) return;
     const what = table ? "display: table of generated content without text, which the profile refuses, as block"
       : `${name} by the browser's computed value`;
     this.findings.add("said", what, `${called(node)} (${value})`);

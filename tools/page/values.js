@@ -82,10 +82,15 @@ const EMPTY_BOX = {display: "inline-block", position: "static", float: "none", c
   ...Object.fromEntries(["width", "height"].map(it => [it, "auto"])), ...Object.fromEntries(["min-width", "min-height"].map(it => [it, 0])),
   ...Object.fromEntries(SIDES.flatMap(it => [[`margin-${it}`, 0], [`padding-${it}`, 0], [`border-${it}-width`, 0]]))};
 
+/** Whether generated content has nothing in it that makes a line. */
+const isBlank = node => node.children.every(it => it.chars !== undefined && /^[ \t\r\n\f]*$/.test(it.chars));
+
 function wantedOfMade(node, values, set) {
-  const empty = !node.children.length && /^(?:block|table)$/.test(values.display);
+  const empty = isBlank(node) && values.display === "table";
   const found = {"font-size": values["font-size"], position: values.position, float: values.float, clear: values.clear,
     display: empty ? "block" : BOX_DISPLAY[values.display] || values.display, "font-family": set.fontOf(node)};
+  // as narrow as an empty table, and like one it keeps the margins around it apart
+  if (empty) Object.assign(found, {overflow: "hidden", width: 0});
   if (values["line-height"] === "normal" && set.hasLines(node)) found["line-height"] = String(set.normalOf(node));
   for (const it of SIDES) for (const name of [`margin-${it}`, `padding-${it}`, `border-${it}-width`]) found[name] = values[name];
   return found;
@@ -168,6 +173,7 @@ function fitted(found, sizes) {
 const INHERITED = new Set(["direction", "text-align", "white-space", "text-transform", "list-style-position", "font-size", "font-family",
   "line-height", "text-indent", "letter-spacing", "word-spacing"]);
 const OF_TABLES = /^(?:display|float|font-size|font-family|text-align|white-space|line-height)$/;
+const UNSIZED = /^(?:font-size|display|position|float|clear|overflow)$/;
 const OF_BOXES = /^(?:(?:min-|max-)?(?:width|height))$/;
 const REFUSED = {position: /^(?:relative|absolute|fixed)$/, display: /^(?:inline-)?table/, "vertical-align": /^(?:text-)?(?:top|bottom)$/,
   direction: /^rtl$/, "list-style-position": /^inside$/, "white-space": PRE, "text-transform": /^(?:capitalize|uppercase|lowercase)$/};
@@ -229,18 +235,20 @@ class Copy {
     this.stand(at);
     for (let round = 0; round < 64; round++) {
       const changes = [];
-      const visit = (node, above) => {
+      const visit = (node, above, before) => {
         if (LEFT_OUT.has(node.tag) || node.made === "break") return;
         const mine = given(valuesOf(this.bearers.get(node)), this.set);
         const differ = this.differences(node, mine, at);
+        // lengths in em wait until the font has its size, where it gets one
+        const waiting = before || differ.has("font-size") && !above.has("font-size");
         for (const name of differ) {
-          if (!(INHERITED.has(name) && above.has(name)) && !this.waits(name, differ, above)) changes.push([node, name]);
+          if (!(INHERITED.has(name) && above.has(name)) && !(waiting && !UNSIZED.test(name))) changes.push([node, name]);
         }
         if (this.hiddenAt(node, at)) return;
         const passed = new Set([...differ, ...node.unsaid || []]);
-        for (const child of node.children || []) if (child.tag) visit(child, passed);
+        for (const child of node.children || []) if (child.tag) visit(child, passed, waiting);
       };
-      visit(this.tree.root, new Set());
+      visit(this.tree.root, new Set(), false);
       if (!changes.filter(([node, name]) => this.say(node, name)).length) return;
       this.turn();
     }
@@ -254,12 +262,6 @@ class Copy {
     const found = [...this.bearers].filter(([, bearer]) => bearer.hasAttribute(TURNED_AT));
     this.turned.textContent = found.flatMap(([node, bearer]) =>
       rulesBySteps(`[${TURNED_AT}="${bearer.getAttribute(TURNED_AT)}"]`, node.pins)).join("\n");
-  }
-
-  /** Lengths in em wait until the font has its size. */
-  waits(name, differ, above) {
-    const sized = differ.has("font-size") || above.has("font-size");
-    return sized && !/^(?:font-size|display|position|float|clear|overflow)$/.test(name);
   }
 
   differences(node, mine, at) {
