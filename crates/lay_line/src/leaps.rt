@@ -24,7 +24,7 @@ pub struct Guess {
 
 impl Guess {
     /// Behind more text of the line.
-    pub fn taken(self, size: u64) -> Guess {
+    pub(crate) fn taken(self, size: u64) -> Guess {
         let line = self.line.saturating_add(size);
         let over = if self.over <= line {
             line.saturating_add(line / 4)
@@ -39,7 +39,7 @@ impl Guess {
     }
 
     /// After a line that doesn't take so much more.
-    pub fn refused(self, size: u64) -> Guess {
+    pub(crate) fn refused(self, size: u64) -> Guess {
         let sum = self.line.saturating_add(size);
         let fits = if sum <= self.fits {
             sum - sum / 16
@@ -76,7 +76,7 @@ fn size_of(item: &Item) -> u64 {
 }
 
 /// How much text pieces are.
-pub fn text_in<N>(pieces: &[Piece<N>]) -> u64 {
+pub(crate) fn text_in<N>(pieces: &[Piece<N>]) -> u64 {
     let mut size = 0u64;
     for piece in pieces {
         size = size.saturating_add(size_of(&piece.item));
@@ -164,7 +164,7 @@ fn further<'p, 'a, N>(
 
 /// The first stretch, or more of them where they are words and spaces: at most so many, and no more than a line is
 /// guessed to take.
-pub fn leap_on<'p, 'a, N>(
+pub(crate) fn leap_on<'p, 'a, N>(
     guess: Guess,
     stretches: &Stretches<'p, 'a, N>,
     most: usize,

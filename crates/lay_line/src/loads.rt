@@ -361,7 +361,7 @@ pub struct Loaded<'p, 'a, N> {
 
 /// Takes stretches as long as they fit. Where several are words and spaces they are taken at once if the last of them
 /// fits: no word and no space is narrower than 0.
-pub fn fill<'p, 'a, S: Steady>(
+pub(crate) fn fill<'p, 'a, S: Steady>(
     alloc: Global,
     calc: &mut S,
     container: &Container<'_, S::Num>,
