@@ -19,11 +19,14 @@ mod worlds;
 
 pub use bytes::{BytesVerdict, Front, check_bytes, check_front};
 pub use cuts::{Child, Cut, Opens, cut_of, part_of, world_count};
+pub use descent::{Above, Descent};
 pub use entry::check;
 pub use halves::{Halves, halves_of, longest_axis, middle};
 pub use laws::{
     no_more_nodes_than_bytes, one_verdict_each, right_holds, unit_rows, units_are_plain,
 };
 pub use leaf::check_leaf;
+pub use shapes::{has_denial, is_shaped_def, is_shaped_row};
 pub use verdicts::{Reject, Verdict};
+pub use walk::{Stop, check_answers, check_grid, check_lemma, child_part};
 pub use worlds::{first_untrue, holds_at};

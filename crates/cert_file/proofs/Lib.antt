@@ -1,3 +1,4 @@
 pub mod Parsing
 pub mod Faults
 pub mod UpTos
+pub mod ReadLemmas

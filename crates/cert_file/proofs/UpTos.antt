@@ -31,7 +31,7 @@ whole_text old new bytes all none n at =
 
 -- ---- verdicts, one job and one certificate more
 
-pass_more : {jobs : List Job} {certs : List Cert} → AllPass jobs certs → (job : Job) (cert : Cert) → Passes job cert → AllPass (jobs ++ job ∷ []) (certs ++ cert ∷ [])
+pub pass_more : {jobs : List Job} {certs : List Cert} → AllPass jobs certs → (job : Job) (cert : Cert) → Passes job cert → AllPass (jobs ++ job ∷ []) (certs ++ cert ∷ [])
 pass_more AllPass.nothing job cert pass = AllPass.first pass AllPass.nothing
 pass_more (AllPass.first p all) job cert pass = AllPass.first p (pass_more all job cert pass)
 

@@ -1,7 +1,9 @@
 -- Certificate files: the texts of certificates, one for each part of a job, one after another.
-use Rattle.std.specs.Prelude.{◌≡◌, ℕ, suc, ◌≤◌, List, [], ◌∷◌, ◌++◌, length, take}
+use Rattle.std.specs.Prelude.{◌≡◌, ℕ, suc, ◌≤◌, List, [], ◌∷◌, ◌++◌, length, take, ⊤}
 use Rattle.viz_base.specs.declared.jobs.Job.{Job}
 use Rattle.cert_text.specs.declared.certificate.Cert.{Cert}
+use Rattle.cert_text.specs.declared.certificate.CertFault.{CertFault}
+use Rattle.cert_text.specs.declared.certificate.CertFault.TheVariants as of_fault
 use Rattle.cert_text.specs.Texts.{CertText}
 use Rattle.cert_check.specs.declared.verdicts.Reject.{Reject}
 use Rattle.cert_check.specs.Verdicts.{IsCause, Passes}
@@ -66,3 +68,29 @@ abbrev pub IsFileVerdict : List Job → List ℕ → FileVerdict → Type 0
 IsFileVerdict jobs bytes Accepted = IsAccepted jobs bytes
 IsFileVerdict jobs bytes (Rejected part reject) = IsWrong jobs bytes part reject
 IsFileVerdict jobs bytes (Grammar at) = IsNoFile (length jobs) bytes at
+
+-- ---- certificates for other jobs
+
+-- the certificate with this digest in place of its own
+abbrev pub with_digest : List ℕ → Cert → Cert
+with_digest digest cert = record { form = cert.form; job = digest; root = cert.root }
+
+-- each with that of its part's job
+abbrev pub renamed : List Job → List Cert → List Cert
+renamed [] certs = []
+renamed (job ∷ jobs) [] = []
+renamed (job ∷ jobs) (cert ∷ certs) = with_digest job.digest cert ∷ renamed jobs certs
+
+-- the bytes are the texts of certificates, one for each part, and these are they with those digests, which have texts
+pub record AreReadFor (jobs : List Job) (bytes : List ℕ) (certs : List Cert) : Type 0 where
+  pub given : List Cert
+  pub texts : AreTexts given bytes
+  pub as_many : length given ≡ length jobs
+  pub are : certs ≡ renamed jobs given
+  pub spelled : List ℕ
+  pub spell : AreTexts certs spelled
+
+-- why bytes are no file of so many certificates; want of memory says nothing
+abbrev pub IsFileFault : CertFault → ℕ → List ℕ → Type 0
+IsFileFault of_fault.Mem count bytes = ⊤
+IsFileFault (of_fault.Grammar at) count bytes = IsNoFile count bytes at

@@ -41,7 +41,7 @@ fn skip(reader: &mut Reader<'_>) -> Result<bool, CertFault>
 }
 
 /// How long the text of the certificate is with which the bytes begin.
-fn text_length(alloc: Global, bytes: &[u8]) -> Result<u64, CertFault>
+pub(crate) fn text_length(alloc: Global, bytes: &[u8]) -> Result<u64, CertFault>
     ensures text { IfOk result (HasText bytes.now) }
     ensures fault { IfErr result (λ fault. HasFault fault bytes.now) }
 {

@@ -1,11 +1,11 @@
 //! What a finding has to pass, whoever made it.
-ghost use Rattle.std.specs.Prelude.{◌≡◌, ◌↔◌, ◌+◌, ◌≤◌, ◌<◌, ◌^◌, ℕ, List, length, IsTrue, IfOk, IfSome};
+ghost use Rattle.std.specs.Prelude.{◌≡◌, ◌↔◌, ◌+◌, ◌-◌, ◌≤◌, ◌<◌, ◌^◌, ℕ, List, length, IsTrue, IfOk, IfSome};
 ghost use Rattle.logic_semantics.specs.Ranges.{IsInRange};
 ghost use Rattle.cert_text.specs.declared.certificate.CertNode.TheVariants.{Grid};
 ghost use Rattle.cert_text.specs.Texts.{CertText};
 ghost use Rattle.viz_base.specs.Worlds.{world_count};
 ghost use Rattle.cert_check.specs.Truths.{Holds};
-ghost use Rattle.prove_search.specs.Outcomes.{IsViolation, IsOutcome, Decides, has_lemma};
+ghost use Rattle.prove_search.specs.Outcomes.{IsViolation, IsOutcome, IsProof, Decides, has_lemma};
 ghost use Rattle.prove_search.specs.steps.Turns.{AreLeft, IsWithinBounds};
 
 use crate::outcome::Outcome;
@@ -111,6 +111,22 @@ fn judged(
         Verdict::Accepted => Ok(Some(Outcome::Proved(cert))),
         Verdict::Rejected(Reject::Untrue(_, world)) => Ok(Some(Outcome::Violated(world))),
         Verdict::Rejected(_) => Ok(None),
+    }
+}
+
+/// Whether a certificate, whoever made it, proves a job in at most `most` bytes, however many grids and leaves it has.
+/// The only fault is want of memory.
+#[tactic(auto, using(crate::proofs::Judged::passes_proves))]
+pub fn is_proof(alloc: Global, job: &Job, cert: &Cert, most: u64) -> Result<bool, Mem>
+    ensures { IfOk result (λ yes. IsTrue yes → IsProof job.now (2 ^ 64 - 1) most cert.now) }
+{
+    let within = is_within_bounds(alloc, job, cert, u64::MAX, most)?;
+    if !within {
+        return Ok(false);
+    }
+    match check(alloc, job, cert)? {
+        Verdict::Accepted => Ok(true),
+        Verdict::Rejected(_) => Ok(false),
     }
 }
 

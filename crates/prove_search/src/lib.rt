@@ -7,4 +7,5 @@ mod outcome;
 mod plain;
 
 pub use entry::{prove, prove_within};
+pub use gates::is_proof;
 pub use outcome::Outcome;

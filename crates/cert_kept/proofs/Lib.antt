@@ -1,0 +1,4 @@
+pub mod Barely
+pub mod Walking
+pub mod Marks
+pub mod Heres
