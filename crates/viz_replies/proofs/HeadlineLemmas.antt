@@ -18,7 +18,7 @@ use Rattle.viz_replies.proofs.ReplyLemmas.{false_there}
 use Rattle.viz_replies.proofs.SearchLemmas.{proofs_hold}
 
 -- jobs whose certificates pass hold
-pass_hold : {jobs : List Job} {certs : List Cert} → AllPass jobs certs → AllByRecursion Holds jobs
+pub pass_hold : {jobs : List Job} {certs : List Cert} → AllPass jobs certs → AllByRecursion Holds jobs
 pass_hold AllPass.nothing = tt
 pass_hold (AllPass.first h hs) = (h.holds, pass_hold hs)
 

@@ -1,5 +1,4 @@
 pub mod LineLemmas
-pub mod RawRanges
 pub mod PartLemmas
 pub mod SearchLemmas
 pub mod ReplyLemmas

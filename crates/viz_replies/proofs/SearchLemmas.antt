@@ -31,7 +31,7 @@ module _ (turns most : ℕ) where
       subst (AreProofs turns most (take (at + 1) jobs)) (sym h.behind)
       (subst (λ js. AreProofs turns most js (old ++ h.text)) jobs_are (one_more job h.cert h.text proofs h.proof h.spelled))
 
-  first_open : (jobs : List Job) (at : ℕ) (job : Job) (texts : List ℕ) → at < length jobs → job ≡ get_or jobs at job → AreProofs turns most (take at jobs) texts → IsFirstOpen turns most jobs job
+  pub first_open : (jobs : List Job) (at : ℕ) (job : Job) (texts : List ℕ) → at < length jobs → job ≡ get_or jobs at job → AreProofs turns most (take at jobs) texts → IsFirstOpen turns most jobs job
   first_open jobs at job texts within is proofs = record {
     before = take at jobs;
     behind = drop (at + 1) jobs;

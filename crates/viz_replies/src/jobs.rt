@@ -5,7 +5,7 @@ ghost use Rattle.viz_replies.specs.steps.Answers.{AreJobsRead, IsJobRead};
 use crate::refusals::refusal;
 use crate::reply::{Answer, Reply, line};
 use page_build::{build_at, build_parts};
-use page_media::each_world_has_one_part;
+use page_parts::parts_tell;
 use std::alloc::Global;
 use viz_base::{Job, List, Mem};
 
@@ -55,7 +55,7 @@ pub fn read_jobs(alloc: Global, bytes: &[u8]) -> Result<JobsRead, Mem>
     if bytes.len() > JOB_MOST {
         return Ok(JobsRead::Refused(long_job(alloc)?));
     }
-    each_world_has_one_part();
+    parts_tell();
     match build_parts(alloc, bytes) {
         Ok(jobs) => Ok(JobsRead::Read(jobs)),
         Err(fault) => Ok(JobsRead::Refused(refusal(alloc, fault)?)),

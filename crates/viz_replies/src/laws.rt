@@ -1,7 +1,7 @@
 ghost use Rattle.viz_replies.specs.Laws.{OneJobThere, PartsAreTrueThere, PartsHold};
 
 use page_build::one_answer;
-use page_media::{chosen_are_met, each_world_has_one_part, features_are_all, guarded_is_if};
+use page_parts::parts_tell;
 
 /// Law: the jobs of the parts of a range all hold exactly where the assertion as it is written is true everywhere, and
 /// all are true at a world of the range exactly where it is true there. Where bytes spell the jobs of the parts, they
@@ -12,8 +12,5 @@ pub fn parts_hold()
     ensures one { OneJobThere }
 {
     one_answer();
-    features_are_all();
-    chosen_are_met();
-    each_world_has_one_part();
-    guarded_is_if();
+    parts_tell();
 }

@@ -85,7 +85,7 @@ fn violated(alloc: Global, bytes: &[u8], world: World) -> Result<Reply, Mem>
 }
 
 /// What is replied of a search of the jobs that the bytes spell.
-fn search_reply(alloc: Global, bytes: &[u8], search: Found) -> Result<Reply, Mem>
+pub fn search_reply(alloc: Global, bytes: &[u8], search: Found) -> Result<Reply, Mem>
     requires { CanBeTold bytes.now search }
     ensures { IfOk result (λ r. IsSearchReply bytes.now search r.answer r.output.items) }
 {

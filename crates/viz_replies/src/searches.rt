@@ -22,7 +22,7 @@ pub enum Found {
 }
 
 /// How many bytes a certificate of one of so many parts may have.
-fn part_most(parts: usize) -> u64
+pub fn part_most(parts: usize) -> u64
     requires some { 0 < parts }
     requires few { parts ≤ 12 }
     ensures given { result ≡ part_most parts }
@@ -33,7 +33,7 @@ fn part_most(parts: usize) -> u64
 
 /// Searches the job of a part, and puts the text of its certificate behind those of the parts before it; or why there
 /// is none.
-fn search_part(
+pub fn search_part(
     alloc: Global,
     job: &Job,
     turns: u64,

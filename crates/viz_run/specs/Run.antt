@@ -108,10 +108,14 @@ pub record IsCutShort {S : Type 0} (sink : Sunk S) (output : List ℕ) : Type 0 
   pub part : GrewByPart (sink.written sink.old) (sink.written sink.new) output
   pub something : output ≢ []
 
+-- a call ends so, with the whole output written, or with the fault, the sink having failed
+abbrev pub Ends : {S T : Type 0} → (fault : T) → Sunk S → (result wanted : T) → List ℕ → Type 0
+Ends fault sink result wanted output =
+    ((result ≡ wanted) × IsWritten sink output) ⊎ ((result ≡ fault) × IsCutShort sink output)
+
 -- the status is this one, with the whole output written, or the sink failed
 abbrev pub Delivers : {S : Type 0} → Sunk S → Status → Status → List ℕ → Type 0
-Delivers sink result status output =
-    ((result ≡ status) × IsWritten sink output) ⊎ ((result ≡ ends.WriteFault) × IsCutShort sink output)
+Delivers sink result status output = Ends ends.WriteFault sink result status output
 
 -- ---- runs
 

@@ -7,4 +7,4 @@ mod status;
 mod words;
 
 pub use status::{File, Status};
-pub use words::Command;
+pub use words::{Command, number_of};

@@ -37,8 +37,8 @@ pub enum Command<'a> {
     },
 }
 
-/// The number that a word spells in decimal, without sign or leading zero.
-fn number_of(word: &str) -> Option<u64>
+/// The number that a word spells in decimal, without sign or leading zero. It takes no memory.
+pub fn number_of(word: &str) -> Option<u64>
     ensures { MatchOption result ((n : ℕ) → n < 2 ^ 64 → word.now ≢ decimal n) (λ n. word.now ≡ decimal n) }
 {
     match word.parse::<u64>() {

@@ -6,7 +6,7 @@ use Rattle.viz_base.specs.Jobs.{IsRange}
 use Rattle.page_json.specs.declared.faults.JobFault.{JobFault}
 use Rattle.page_json.specs.declared.faults.JobFault.TheVariants.{Range}
 use Rattle.page_json.specs.Faults.{◌>>=◌}
-use Rattle.page_json.specs.Jobs.{Parts, Raw, in_range, job_in, judged, limited, parts_of, ranged, raw, raw_job, value_of}
+use Rattle.page_json.specs.Jobs.{Parts, Raw, assertion_of, in_range, job_under, judged, judged_with, limited, parts_under, ranged, raw, raw_job, raw_job_with, value_of}
 use Rattle.page_json.proofs.LimitLemmas.{in_range-good}
 
 -- what comes last was reached through what comes first
@@ -20,9 +20,10 @@ within p job true is e =
     subst IsRange (ap (λ (r : Raw). r.range) same) (in_range-good p is)
 within p job false is e = absurd (cc)
 
-of_value : (d : Data) (job : Raw) → job_in d ≡ Ok job → IsRange job.range
-of_value d job e =
-    let parts = from (parts_of d) (λ p. limited p >>= λ _. ranged p) job e in
+-- under no assertion, or this one
+of_value : (assertion : Option (List ℕ)) (d : Data) (job : Raw) → job_under assertion d ≡ Ok job → IsRange job.range
+of_value assertion d job e =
+    let parts = from (parts_under assertion d) (λ p. limited p >>= λ _. ranged p) job e in
     let limits = from (limited parts.0) (λ _. ranged parts.0) job parts.1 in
     within parts.0 job (in_range parts.0) refl limits.1
 
@@ -31,4 +32,11 @@ raw_range bytes job e = by_value (value_of bytes) e
   where
     by_value : (o : Option Data) → judged o ≡ Ok job → IsRange job.range
     by_value None f = absurd (cc)
-    by_value (Some d) f = of_value d job f
+    by_value (Some d) f = of_value (assertion_of d) d job f
+
+pub raw_range_with : (assertion bytes : List ℕ) (job : Raw) → raw_job_with assertion bytes ≡ Ok job → IsRange job.range
+raw_range_with assertion bytes job e = by_value (value_of bytes) e
+  where
+    by_value : (o : Option Data) → judged_with assertion o ≡ Ok job → IsRange job.range
+    by_value None f = absurd (cc)
+    by_value (Some d) f = of_value (Some assertion) d job f

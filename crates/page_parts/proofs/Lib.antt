@@ -1,0 +1,2 @@
+pub mod RawRanges
+pub mod PartTruths
