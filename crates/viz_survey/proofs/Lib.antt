@@ -1,0 +1,4 @@
+pub mod Widths
+pub mod Stretches
+pub mod LineLemmas
+pub mod SurveyLemmas

@@ -1,0 +1,4 @@
+pub mod Words
+pub mod Joins
+pub mod Searches
+pub mod Surveys
