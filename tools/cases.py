@@ -9,12 +9,13 @@ heights, in certs17/ certificates with lemmas, and in jobs18/ and jobs19/ both f
 file of certificates having one for each part; refusals.jsonl and refusals16.jsonl, jobs that are refused; grammar.jsonl and
 grammar17.jsonl, texts with the place up to which some certificate's text begins so, or null where they are a certificate's; runs15.jsonl
 and runs17.jsonl, whole runs over files and an output in memory, of which chosen loads and writes fail: texts by name, then runs, whose
-files are so many bytes of these texts; and media.jsonl and pseudo.jsonl, of media lists and width queries and of generated content, whose
-lines have a `call`. later17.jsonl and later.jsonl have what has become of lines of these files. Long cases come behind these, the cases of
-layout that tools/layout_cases.py reads, those of tools/limit_cases.py and the documents of tools/worked_pages.py. What is called goes to a
-crate's stdin and what it must give to its stdout, a line of JSON each: what is replied to whole jobs (lay, check, prove, finding, gen and
-trial) and whole runs (run) to crates/job_cases, what is of layout, rows and derivations to crates/layout_cases, all else to crates/cases. A
-page goes as a job that has it; a formula as steps, each part before what it is a part of.
+files are so many bytes of these texts; survey/, jobs with lists of rules and files of certificates and what `vizsurvey` writes about them;
+and media.jsonl and pseudo.jsonl, of media lists and width queries and of generated content, whose lines have a `call`. later17.jsonl and
+later.jsonl have what has become of lines of these files. Long cases come behind these, the cases of layout that tools/layout_cases.py
+reads, those of tools/limit_cases.py and the documents of tools/worked_pages.py. What is called goes to a crate's stdin and what it must
+give to its stdout, a line of JSON each: what is replied to whole jobs (lay, check, prove, finding, gen and trial) and whole runs (run,
+survey and ending) to crates/job_cases, what is of layout, rows and derivations to crates/layout_cases, all else to crates/cases. A page
+goes as a job that has it; a formula as steps, each part before what it is a part of.
 """
 import hashlib
 import json
@@ -435,6 +436,10 @@ def grammar(folder):
 
 # ---- whole runs
 
+# the verb of a run in a file of outputs, its other words, what is written and the status
+BLOCKS = re.compile(r"^== ([a-z]+) (.*)\n((?:(?!== ).*\n)*)== status (\d)$", re.M)
+
+
 def run(words, files, status, written, fails=(), sink=None):
     """A run over these files, by name, whose loads of these numbers fail. A sink tells how much a write takes at most, how much all do, and
     which writes fail; each number is null for more than any output has."""
@@ -453,6 +458,26 @@ def runs(folder):
             else:
                 files = {name: texts[base][:size].decode() for name, (base, size) in case["files"].items()}
                 yield run(case["words"], files, case["status"], case["written"], case["fails"], case["sink"])
+
+
+def text_of(path):
+    """The text of a file, None where its bytes are none."""
+    try:
+        return path.read_bytes().decode()
+    except UnicodeDecodeError:
+        return None
+
+
+def surveys(folder):
+    """Runs of `vizsurvey` over a job file and a list of rules or a file of certificates, but for lists that are no text. Where what is
+    written is free, the status alone counts."""
+    for path in sorted((folder / "survey").glob("*.json")):
+        for verb, given, output, status in BLOCKS.findall(text_of(path.with_suffix(".out"))):
+            number, *turns = given.removesuffix(" free").split()
+            other = text_of(path.with_name(f"{path.stem}-{number}.{'list' if verb == 'table' else 'cert'}"))
+            if other is not None:
+                called, answer = run([verb, "J", "X", *turns], {"J": text_of(path), "X": other}, int(status), output)
+                yield (["ending", *called[1:]], answer[:1]) if given.endswith(" free") else (["survey", *called[1:]], answer)
 
 
 def stopped_search():
@@ -491,7 +516,7 @@ def long_cases():
 CALLS = [decimals, tokens, sheets, declarations, selectors, matches, values, cascade, formulas, truths]
 # the tables but that of `cases`: what is replied to a whole job, and what is of layout, rows and derivations
 TABLES = {
-    "job_cases": ("lay", "check", "prove", "finding", "gen", "trial", "run"),
+    "job_cases": ("lay", "check", "prove", "finding", "gen", "trial", "run", "survey", "ending"),
     "layout_cases": (
         "boxes", "used", "fonts", "words", "widths", "preferred", "lines", "lead", "float_at", "floats", "band", "bottom", "collapsed",
         "add_scaled", "negate", "divides", "cut", "derivation", "entails", "leaf", "pieces",
@@ -515,6 +540,7 @@ def all_cases(folder):
         yield from module.cases(folder)
     yield from worked_pages.cases()
     yield from runs(folder)
+    yield from surveys(folder)
     yield from stopped_search()
 
 

@@ -14,7 +14,7 @@ use std::alloc::Global;
 fn answer(alloc: Global, line: &str) -> Result<String, Fault> {
     let case = Value::from_str(alloc, line)?;
     match members::text_at(&case, 0)? {
-        "run" => runs::answer(alloc, &case),
+        name @ ("run" | "survey" | "ending") => runs::answer(alloc, name, &case),
         "finding" => replies::finding(alloc, &case),
         _ => replies::answer(alloc, &case),
     }

@@ -1,10 +1,11 @@
-//! Runs of the program over files and an output in memory, of which chosen loads and writes fail.
+//! Runs of both programs over files and an output in memory, of which chosen loads and writes fail.
 use case_scribe::{Fault, Scribe};
 use serde_json::Value;
 use std::alloc::Global;
 use viz_base::{List, Text, Text8};
 use viz_outside::{MemShelf, MemSink};
 use viz_run::run::run;
+use viz_survey_run::survey;
 
 /// The words of a run.
 fn words(scribe: &mut Scribe, case: &Value) -> Vec<String> {
@@ -57,25 +58,42 @@ fn sink(scribe: &mut Scribe, case: &Value) -> Option<MemSink> {
     scribe.kept(sink)
 }
 
-/// Writes how a run ended, and what it wrote.
-fn tell(scribe: &mut Scribe, code: u8, written: &[u8]) {
-    scribe.open();
-    scribe.number(code);
+/// Writes what a run wrote.
+fn tell_written(scribe: &mut Scribe, written: &[u8]) {
     match str::from_utf8(written) {
         Ok(text) => scribe.quoted(text),
         Err(_) => scribe.fail(Fault::NoCase),
     }
-    scribe.close();
+}
+
+/// The number with which a run ends: `run` is a run of `vizlog`, all else of `vizsurvey`.
+fn ended(
+    alloc: Global,
+    name: &str,
+    words: &[String],
+    shelf: &mut MemShelf,
+    sink: &mut MemSink,
+) -> u8 {
+    match name {
+        "run" => run(alloc, words, shelf, sink).code(),
+        _ => survey(alloc, words, shelf, sink).code(),
+    }
 }
 
 /// The status with which a run ends and what it wrote, given the words, the files, the loads that fail, and the output.
-pub fn answer(alloc: Global, case: &Value) -> Result<String, Fault> {
+/// With `ending` the status alone.
+pub fn answer(alloc: Global, name: &str, case: &Value) -> Result<String, Fault> {
     let mut scribe = Scribe::new(alloc);
     let words = words(&mut scribe, case);
     let mut shelf = shelf(&mut scribe, case);
     if let Some(mut sink) = sink(&mut scribe, case) {
-        let status = run(alloc, words.as_slice(), &mut shelf, &mut sink);
-        tell(&mut scribe, status.code(), sink.written());
+        let code = ended(alloc, name, words.as_slice(), &mut shelf, &mut sink);
+        scribe.open();
+        scribe.number(code);
+        if name != "ending" {
+            tell_written(&mut scribe, sink.written());
+        }
+        scribe.close();
     }
     scribe.finished()
 }
