@@ -18,6 +18,7 @@ import media
 import metric_font
 import page_export
 import rule_text
+import strips
 from program import Way
 
 TOP = pathlib.Path(__file__).resolve().parent.parent
@@ -63,6 +64,12 @@ def renderings():
                         (printed.replace("block 2", "block 7"), "the answer is not of this job: it names a node or box that isn't there"),
                         ("vizlog-cert 1\njob " + "0" * 64 + "\ngrid\n", "the certificate is for another job")):
         yield fault, refused(text, job), fault
+    listed, table = 'wide view.width >= 360px\nall true\n', "wide 320 359 fails\nwide 360 400 holds\nall 320 400 holds\n"
+    rules = strips.rules_of(table, listed)
+    yield "a survey", [it.says() for it in rules], ["fails at each width from 320 to 359 px; holds from 360 to 400 px", "holds at every size"]
+    drawn = "\n".join(strips.lines_of(job, rules, lambda at, answer: [], ""))
+    yield "its strips", (drawn.count("<rect"), "1 of 2 rules hold" in drawn, strips.ticks(job, rules)), (3, True, [320, 360, 400])
+    yield "another text", [strips.is_table(it) for it in (table, printed, "", table[:-1])], [True, False, False, False]
     article = answers.job_of(text_of("pages/article.json"))
     yield "names", [node.name for node in article.nodes][2:7], ["body", "“”", "article", "“”", "h1"]
 
