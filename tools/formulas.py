@@ -1,6 +1,6 @@
 """Reads assertions, and tells of one that is false at a rendering which part is false, of which boxes, and by how much. Not proved.
 
-docs/PROFILE.md ("Formulas") has the language. What is found here is shown only where it comes to the truth and the blame that the program
+docs/FORMATS.md ("Formulas") has the language. What is found here is shown only where it comes to the truth and the blame that the program
 printed for the same boxes.
 """
 import re
@@ -272,7 +272,7 @@ class Scene:
             return (all if formula.sign == "and" else any)(self.holds(it, names) for it in formula.parts)
         if isinstance(formula, Paired):
             one, other = (names[it] for it in formula.names)
-            return one == other if formula.word == "same" else min(overlap(self.boxes[one], self.boxes[other])) > 0
+            return {"same": lambda: one == other, "overlap": lambda: min(overlap(self.boxes[one], self.boxes[other])) > 0}[formula.word]()
         left, right = self.sum(formula.left, names), self.sum(formula.right, names)
         return {"<=": left <= right, "<": left < right, ">=": left >= right, ">": left > right, "=": left == right,
                 "!=": left != right}[formula.sign]

@@ -1,4 +1,4 @@
-"""Reads an assertion by its grammar, and tells where it is none and what is awaited there. Not proved; docs/PROFILE.md has the grammar."""
+"""Reads an assertion by its grammar, and tells where it is none and what is awaited there. Not proved; docs/FORMATS.md has the grammar."""
 import re
 
 TOKEN = re.compile(r"(?P<space>[ \t\n]+)|(?P<number>(?:0|[1-9][0-9]*)(?:px(?![a-z0-9]))?)|(?P<word>[a-z][a-z0-9]*)|(?P<string>\"[^\"]*\")"

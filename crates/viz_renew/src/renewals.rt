@@ -63,9 +63,9 @@ fn reply_on_files(alloc: Global, job: &[u8], cert: &[u8], turns: u64) -> Result<
 
 /// The renewal of a certificate file under an edited job file, whatever job it was made for: it keeps the certificates
 /// that are still right, with the job's digest in place of their own, and proves the other parts anew. It replies as
-/// `prove` does with so many turns, but that a renewal may have more grids and leaves than turns. Certificates of form 1
-/// that are all accepted are written as they are, for each count of turns; those of unit splits and grids alone are so
-/// exactly where they are right.
+/// `prove` does with so many turns, but that a renewal may have more grids and leaves than turns. Certificates of form
+/// 1 that are all accepted are written as they are, for each count of turns; those of unit splits and grids alone are
+/// accepted where they are right.
 ///
 /// What is refused is refused as by `reply_to_kept`. `Mem` is for want of memory; no clause says when.
 pub fn reply_to_renew(alloc: Global, job: &[u8], cert: &[u8], turns: u64) -> Result<Reply, Mem>
