@@ -1,4 +1,6 @@
+ghost use Rattle.std.specs.Prelude.{◌≡◌};
 ghost use Rattle.viz_calc.specs.Plain.{plain_state};
+ghost use Rattle.lay_float.specs.Agreement.{Agree};
 
 use lay_float::Floats;
 use std::test::Fail;
@@ -77,17 +79,22 @@ impl Calc for Counting {
 }
 
 /// Where a left float of this size goes that comes behind the earlier ones, and how often comparisons were asked.
-fn place_left(floats: &mut Floats<i128>, width: i128, height: i128) -> (Option<(i128, i128)>, u64) {
-    let mut calc = Counting {
-        plain: Plain::new(WORLD),
-        asked: 0,
-    };
+fn place_left(
+    calc: &mut Counting,
+    floats: &mut Floats<i128>,
+    width: i128,
+    height: i128,
+) -> (Option<(i128, i128)>, u64)
+    requires { Agree (λ n e. n) (plain_state calc.old.plain.world).is_open floats.old }
+    ensures { Agree (λ n e. n) (plain_state calc.new.plain.world).is_open floats.new }
+{
+    calc.asked = 0;
     let cb = Band {
         left: 0,
         right: 64_000,
     };
     let size = Extent { width, height };
-    let spot = match floats.place(&mut calc, Side::Left, &size, &cb, &0) {
+    let spot = match floats.place(calc, Side::Left, &size, &cb, &0) {
         Ok(spot) => Some((spot.x, spot.y)),
         Err(_) => None,
     };
@@ -97,16 +104,25 @@ fn place_left(floats: &mut Floats<i128>, width: i128, height: i128) -> (Option<(
 /// Stairs of floats, each narrow and a line less high than the one before, and then a float that stands below all.
 #[test]
 fn asks_little_beside_stairs(rt: HostRuntime) -> Result<(), Fail> {
+    let mut calc = Counting {
+        plain: Plain::new(WORLD),
+        asked: 0,
+    };
     let mut floats = Floats::new(rt.alloc());
     for before in 0..1000u32 {
-        let (spot, asked) = place_left(&mut floats, 16, 64 * (1000 - i128::from(before)));
+        let (spot, asked) = place_left(
+            &mut calc,
+            &mut floats,
+            16,
+            64 * (1000 - i128::from(before)),
+        );
         assert_eq!(rt; spot, Some((16 * i128::from(before), 0)));
         assert!(rt;
             asked <= 64 * (u64::from(before) + 1),
             "{asked} comparisons beside {before} floats"
         );
     }
-    let (spot, asked) = place_left(&mut floats, 64_000, 64);
+    let (spot, asked) = place_left(&mut calc, &mut floats, 64_000, 64);
     assert_eq!(rt; spot, Some((0, 64_000)));
     assert!(rt; asked <= 64 * 1001, "{asked} comparisons below 1000 floats");
     Ok(())

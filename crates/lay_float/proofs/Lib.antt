@@ -9,3 +9,5 @@ pub mod Rooms
 pub mod Highest
 pub mod Stands
 pub mod BetweenTops
+pub mod Ended
+pub mod Agreeing

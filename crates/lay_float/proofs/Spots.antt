@@ -77,6 +77,11 @@ spot_is fs side size cb top =
     let t = below_greatest top (map (λ (f : FloatBox). f.box.top) fs) f.box.top (to_map (λ (f : FloatBox). f.box.top) fs f i) in
     omega (arith, ints))
 
+-- it is not above the highest top
+pub spot_low : (fs : List FloatBox) (side : Side) (size : Extent ℤ) (cb : Band ℤ) (top : ℤ) → highest_top fs top ≤ℤ (float_at fs side size cb top).y
+spot_low fs of_side.Left size cb top = high_low fs of_side.Left size.width cb top
+spot_low fs of_side.Right size cb top = high_low fs of_side.Right size.width cb top
+
 -- ---- sizes
 
 half_sum : (a b : ℤ) → IsHalf a → IsHalf b → IsSmall (a +ℤ b)

@@ -1,4 +1,5 @@
 pub mod Readings
+pub mod Agreement
 pub mod Limits
 pub mod Places
 pub mod steps

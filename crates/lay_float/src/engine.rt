@@ -1,5 +1,5 @@
 //! Floats over arithmetic that goes on after a halt, for crates whose own work is over such arithmetic too.
-ghost use Rattle.std.specs.Prelude.{◌≡◌, ◌+ℤ◌, ◌∷◌, [], ◌++◌, ⊤, IsTrue, is_some};
+ghost use Rattle.std.specs.Prelude.{◌≡◌, ◌-◌, ◌≤◌, ℕ, ◌+ℤ◌, ◌∷◌, [], ◌++◌, ⊤, Some, None, IsTrue, IfSome, is_some, length, drop, slice_get};
 ghost use Rattle.std.specs.List.{list_any};
 ghost use Rattle.std.specs.Option.{option_to_list};
 ghost use Rattle.viz_calc.specs.World.{Reading};
@@ -8,11 +8,12 @@ ghost use Rattle.viz_calc.specs.Run.{Goes, Blames, BlamesButMem, Lays, LaysButMe
 ghost use Rattle.viz_calc.specs.Renderings.{spot_at, band_at as stretch_at};
 ghost use Rattle.layout_semantics.specs.Extremes.{greatest_from};
 ghost use Rattle.layout_semantics.specs.Floats.{placed_float, highest_top, float_at, float_top, meets, band_at, is_relevant, lowest_bottom};
+ghost use Rattle.lay_float.specs.Agreement.{Agree, IsLevel};
 ghost use Rattle.lay_float.specs.Limits.{AreHalf};
 ghost use Rattle.lay_float.specs.Places.{IsHighest};
 ghost use Rattle.lay_float.specs.Readings.{box_at, boxes_at, floats_at, extent_at, option_at};
-ghost use Rattle.lay_float.specs.steps.Lent.{lent_at, place_at};
-ghost use Rattle.lay_float.specs.steps.Shelves.{spot_on};
+ghost use Rattle.lay_float.specs.steps.Lent.{lent_at, place_at, ahead_at};
+ghost use Rattle.lay_float.specs.steps.Shelves.{spot_on, ahead_of};
 
 use crate::bands::{any_between, room_between};
 use crate::brackets::free_place;
@@ -37,6 +38,63 @@ fn highest_top<'a, S: Steady>(
         best = larger(calc, &f.outer.top, best);
     }
     best
+}
+
+/// The floats behind so many.
+fn behind<N>(floats: &[PlacedFloat<N>], count: usize) -> &[PlacedFloat<N>]
+    ensures { result.now ≡ drop count floats.now }
+{
+    match floats.split_at_checked(count) {
+        Some((_, rest)) => rest,
+        None => &[],
+    }
+}
+
+/// What a float finds that is placed behind others.
+#[derive(Drop)]
+pub struct Ahead<'a, N> {
+    /// The highest top that it may have.
+    pub high: &'a N,
+    /// The floats from the first one on that ends below that top.
+    pub rest: &'a [PlacedFloat<N>],
+}
+
+/// The last of these floats, and those behind the first ones that have ended, where that is known.
+fn known<N>(floats: &Floats<N>) -> Option<(&PlacedFloat<N>, &[PlacedFloat<N>])>
+    ensures { IfSome result (λ k. (slice_get floats.now.placed (length floats.now.placed - 1) ≡ Some k.0.now)
+        × (ended : ℕ) × (floats.now.ended ≡ Some ended) × (k.1.now ≡ drop ended floats.now.placed)) }
+{
+    let all = floats.placed.as_slice();
+    match (all.last(), floats.ended) {
+        (Some(last), Some(ended)) => Some((last, behind(all, ended))),
+        _ => None,
+    }
+}
+
+/// What a float finds behind floats.
+fn ahead_of<'a, S: Steady>(
+    calc: &mut S,
+    floats: &'a Floats<S::Num>,
+    top: &'a S::Num,
+) -> Ahead<'a, S::Num>
+    requires { Agree S.at (S.run calc.old).is_open floats.now }
+    ensures { Lays S.run calc.old calc.new (ahead_at S.at result)
+        (λ e. ahead_of (floats_at S.at floats.now e) (S.at top.now e)) (λ e. ⊤) }
+{
+    match known(floats) {
+        Some((last, others)) => {
+            // Tops only go down, so those that ended above the last one's top aren't looked at again.
+            let high = larger(calc, &last.outer.top, top);
+            let rest = open_from(calc, others, high);
+            Ahead { high, rest }
+        }
+        None => {
+            let all = floats.placed.as_slice();
+            let high = highest_top(calc, all, top);
+            let rest = open_from(calc, all, high);
+            Ahead { high, rest }
+        }
+    }
 }
 
 /// The outer left upper corner of a float of this width that stands at a place.
@@ -82,6 +140,45 @@ pub fn float_at<S: Steady>(
     spot_on(calc, side, &size.width, &place)
 }
 
+/// Where a float stands that is placed behind others.
+#[derive(Drop)]
+pub struct Found<N> {
+    pub spot: Spot<N>,
+    /// How many of the first floats end above its top.
+    pub ended: usize,
+}
+
+/// The place of a float behind floats: the highest that the rules allow with its top not above `top`, and then the
+/// farthest to its side (CSS 2.1, 9.5.1).
+fn spot_behind<S: Steady>(
+    calc: &mut S,
+    floats: &Floats<S::Num>,
+    side: Side,
+    size: &Extent<S::Num>,
+    cb: &Band<S::Num>,
+    top: &S::Num,
+) -> Found<S::Num>
+    requires { Agree S.at (S.run calc.old).is_open floats.now }
+    ensures goes { Goes (S.run calc.old) (S.run calc.new) }
+    ensures value { (e : Reading) → IsTrue ((S.run calc.new).is_open e) → spot_at S.at result.spot e
+        ≡ float_at (floats_at S.at floats.now e) side (extent_at S.at size.now e) (stretch_at S.at cb.now e)
+        (S.at top.now e) }
+    ensures level { (e : Reading) → IsTrue ((S.run calc.new).is_open e)
+        → IsLevel (floats_at S.at floats.now e) result.ended (S.at result.spot.y e) }
+    ensures within { result.ended ≤ length floats.now.placed }
+    ensures cause { Blames (S.run calc.old) (S.run calc.new) ((e : Reading) → IsTrue ((S.run calc.old).is_open e)
+        → AreHalf (floats_at S.at floats.now e) (S.at size.now.width e ∷ S.at cb.now.left e ∷ S.at cb.now.right e
+        ∷ S.at top.now e ∷ [])) }
+{
+    let Ahead { high, rest } = ahead_of(calc, floats, top);
+    let place = free_place(calc, rest, side, &size.width, cb, high);
+    let spot = spot_on(calc, side, &size.width, &place);
+    Found {
+        spot,
+        ended: floats.placed.len().saturating_sub(rest.len()),
+    }
+}
+
 /// The outer box of a float that stands at a place.
 fn outer_box<S: Steady>(
     calc: &mut S,
@@ -110,11 +207,18 @@ fn outer_box<S: Steady>(
     }
 }
 
-/// Puts a float after those that were placed before; after a halt the list is as it was.
-fn append<S: Steady>(calc: &mut S, floats: &mut Floats<S::Num>, placed: PlacedFloat<S::Num>)
+/// Puts a float after those that were placed before, and tells how many of these have ended; after a halt the list is
+/// as it was.
+fn append<S: Steady>(
+    calc: &mut S,
+    floats: &mut Floats<S::Num>,
+    placed: PlacedFloat<S::Num>,
+    ended: Option<usize>,
+)
     ensures goes { Goes (S.run calc.old) (S.run calc.new) }
     ensures value { (e : Reading) → IsTrue ((S.run calc.new).is_open e) → floats.new.placed
         ≡ floats.old.placed ++ placed ∷ [] }
+    ensures ended { (e : Reading) → IsTrue ((S.run calc.new).is_open e) → floats.new.ended ≡ ended }
     ensures halted { IsTrue (is_some (S.run calc.new).halt) → floats.new ≡ floats.old }
     ensures cause { BlamesButMem (S.run calc.old) (S.run calc.new) ⊤ }
 {
@@ -123,9 +227,8 @@ fn append<S: Steady>(calc: &mut S, floats: &mut Floats<S::Num>, placed: PlacedFl
         calc.stop();
         return;
     }
-    // A plain list in the order of placement; nothing rests on the order of its tops.
     match floats.placed.push(placed) {
-        Ok(()) => {}
+        Ok(()) => floats.ended = ended,
         Err(_) => calc.stop(),
     }
 }
@@ -141,6 +244,7 @@ pub fn place<S: Steady>(
     cb: &Band<S::Num>,
     top: &S::Num,
 ) -> Spot<S::Num>
+    requires { Agree S.at (S.run calc.old).is_open floats.old }
     ensures goes { Goes (S.run calc.old) (S.run calc.new) }
     ensures value { (e : Reading) → IsTrue ((S.run calc.new).is_open e)
         → spot_at S.at result e ≡ float_at (floats_at S.at floats.old e) side (extent_at S.at size.now e)
@@ -155,10 +259,11 @@ pub fn place<S: Steady>(
     ensures cause { BlamesButMem (S.run calc.old) (S.run calc.new) ((e : Reading) → IsTrue ((S.run calc.old).is_open e)
         → AreHalf (floats_at S.at floats.old e) (S.at size.now.width e ∷ S.at size.now.height e ∷ S.at cb.now.left e
         ∷ S.at cb.now.right e ∷ S.at top.now e ∷ [])) }
+    ensures agrees { Agree S.at (S.run calc.new).is_open floats.new }
 {
-    let spot = float_at(calc, floats.placed.as_slice(), side, size, cb, top);
+    let Found { spot, ended } = spot_behind(calc, floats, side, size, cb, top);
     let placed = outer_box(calc, side, size, &spot);
-    append(calc, floats, placed);
+    append(calc, floats, placed, Some(ended));
     spot
 }
 
@@ -282,19 +387,24 @@ fn copy_float<S: Steady>(calc: &mut S, f: &PlacedFloat<S::Num>) -> PlacedFloat<S
     }
 }
 
-/// The same floats again.
+/// The same floats again, of which the copy tells nothing.
 pub fn copy<S: Steady>(
     alloc: Global,
     calc: &mut S,
     floats: &[PlacedFloat<S::Num>],
 ) -> Floats<S::Num>
-    ensures { LaysButMem S.run calc.old calc.new (floats_at S.at result) (boxes_at S.at floats.now)
-        (λ e. AreHalf (boxes_at S.at floats.now e) []) }
+    ensures goes { Goes (S.run calc.old) (S.run calc.new) }
+    ensures value { (e : Reading) → IsTrue ((S.run calc.new).is_open e)
+        → floats_at S.at result e ≡ boxes_at S.at floats.now e }
+    ensures cause { BlamesButMem (S.run calc.old) (S.run calc.new) ((e : Reading) → IsTrue ((S.run calc.old).is_open e)
+        → AreHalf (boxes_at S.at floats.now e) []) }
+    ensures ended { result.ended ≡ None }
 {
     let mut out = Floats::new(alloc);
     for f in floats {
         let copied = copy_float(calc, f);
-        append(calc, &mut out, copied);
+        append(calc, &mut out, copied, None);
     }
+    out.ended = None;
     out
 }

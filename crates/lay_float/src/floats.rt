@@ -1,4 +1,4 @@
-ghost use Rattle.std.specs.Prelude.{◌≡◌, []};
+ghost use Rattle.std.specs.Prelude.{◌≡◌, [], None};
 
 use std::alloc::Global;
 use viz_base::{List, Quad, Side};
@@ -17,15 +17,20 @@ pub struct PlacedFloat<N> {
 pub struct Floats<N> {
     /// Their sides and outer boxes.
     pub placed: List<PlacedFloat<N>>,
+    /// How many of the first ones end above the last one's top, and so stand beside none that comes; none where
+    /// nothing is known, neither this nor that the last one's top is the lowest.
+    pub ended: Option<usize>,
 }
 
 impl<N> Floats<N> {
     /// No floats; it takes no memory.
     pub fn new(alloc: Global) -> Self
-        ensures { result.placed ≡ [] }
+        ensures placed { result.placed ≡ [] }
+        ensures ended { result.ended ≡ None }
     {
         Floats {
             placed: List::new(alloc),
+            ended: None,
         }
     }
 }

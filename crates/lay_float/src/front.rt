@@ -4,6 +4,7 @@ ghost use Rattle.viz_calc.specs.World.{Reading};
 ghost use Rattle.viz_calc.specs.State.{Grows, AreOpen, CauseButMem, Cause};
 ghost use Rattle.viz_calc.specs.Renderings.{spot_at, band_at as stretch_at};
 ghost use Rattle.layout_semantics.specs.Floats.{placed_float, float_at, band_at, is_relevant, lowest_bottom};
+ghost use Rattle.lay_float.specs.Agreement.{Agree};
 ghost use Rattle.lay_float.specs.Limits.{AreHalf};
 ghost use Rattle.lay_float.specs.Places.{IsHighest};
 ghost use Rattle.lay_float.specs.Readings.{floats_at, extent_at, option_at};
@@ -22,6 +23,7 @@ impl<N: Drop> Floats<N> {
         ensures kept { AreOpen (C.state calc.old).kept (C.state calc.new) }
         ensures cause { IfErr result (CauseButMem (C.state calc.old) (C.state calc.new)
             ((e : Reading) → IsTrue ((C.state calc.old).is_open e) → AreHalf (floats_at C.at self.now e) [])) }
+        ensures agrees { IfOk result (λ r. Agree C.at (C.state calc.new).is_open r) }
     {
         let mut latch = Latch::new(calc);
         let copied = engine::copy(self.placed.allocator(), &mut latch, self.placed.as_slice());
@@ -39,6 +41,7 @@ impl<N: Drop> Floats<N> {
         cb: &Band<N>,
         top: &N,
     ) -> Result<Spot<N>, Halt>
+        requires { Agree C.at (C.state calc.old).is_open self.old }
         ensures grows { Grows (C.state calc.old) (C.state calc.new) }
         ensures value { IfOk result (λ r. (e : Reading) → IsTrue ((C.state calc.new).is_open e)
             → spot_at C.at r e ≡ float_at (floats_at C.at self.old e) side (extent_at C.at size.now e)
@@ -55,6 +58,7 @@ impl<N: Drop> Floats<N> {
             → IsTrue ((C.state calc.old).is_open e)
             → AreHalf (floats_at C.at self.old e) (C.at size.now.width e ∷ C.at size.now.height e ∷ C.at cb.now.left e
             ∷ C.at cb.now.right e ∷ C.at top.now e ∷ []))) }
+        ensures agrees { Agree C.at (C.state calc.new).is_open self.new }
     {
         let mut latch = Latch::new(calc);
         let spot = engine::place(&mut latch, self, side, size, cb, top);

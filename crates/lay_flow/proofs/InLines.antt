@@ -11,8 +11,11 @@ use Rattle.viz_base.specs.declared.worlds.World.{World}
 use Rattle.viz_calc.specs.World.{Reading}
 use Rattle.layout_semantics.specs.Flow.{Alone, raised}
 use Rattle.layout_semantics.specs.InlineContent.{inner_boxes}
+use Rattle.layout_semantics.specs.LineHeights.{InlineContext}
 use Rattle.layout_semantics.specs.Lists.{room_for}
 use Rattle.layout_semantics.specs.Lines.{LineList, lines_in}
+use Rattle.layout_laws.specs.PlacedFloats.{ArePlacedAfter}
+use Rattle.layout_laws.proofs.PlacedFloats.{of_lines}
 use Rattle.lay_float.proofs.Loops.{goes-on}
 use Rattle.lay_line.specs.Contexts.{inner_at, table_at}
 use Rattle.lay_line.specs.Readings.{entry_at, entries_at}
@@ -107,3 +110,10 @@ module _ (tree : BoxTree) (w : World) (apart : ℕ → Alone) where
       → flat_map (entry_of tree w apart) l.entries ≡ (in_lines tree w apart b cb top s).boxes
   unfolding in_lines
   boxes-after b cb top s l is = ap (λ (x : LineList). flat_map (entry_of tree w apart) x.entries) is
+
+-- the floats of lines are placed by the rules
+pub lines-placed : (tree : BoxTree) (w : World) (apart : ℕ → Alone) (b : ℕ) (cb : Band ℤ) (top : ℤ) (s : Context) → ArePlacedAfter s.floats (lines_of tree w apart b cb top s).floats
+unfolding lines_of
+lines-placed tree w apart b cb top s =
+    let c : InlineContext = record { tree = tree; world = w; container = b; inner = inner_table tree w apart b; cb = cb } in
+    of_lines c top (unwrap_or s.least top) s.floats

@@ -10,6 +10,7 @@ ghost use Rattle.layout_semantics.specs.InlineContent.{inner_boxes as inner_of_b
 ghost use Rattle.layout_semantics.specs.Lengths.{own};
 ghost use Rattle.layout_semantics.specs.Lists.{room_for as room_of};
 ghost use Rattle.lay_frame.specs.Readings.{boxes_at};
+ghost use Rattle.lay_float.specs.Agreement.{Agree};
 ghost use Rattle.lay_float.specs.Readings.{option_at};
 ghost use Rattle.lay_line.specs.Contexts.{inner_at, table_at};
 ghost use Rattle.lay_line.specs.Items.{items_of};
@@ -317,7 +318,8 @@ pub fn in_lines<S: Steady>(
     context: &mut Context<S::Num>,
     out: &mut Vec<Placed<S::Num>>,
 )
-    requires { b < length page.now.tree.now.boxes }
+    requires within { b < length page.now.tree.now.boxes }
+    requires agrees { Agree S.at (S.run calc.old).is_open context.old.floats }
     ensures goes { Goes (S.run calc.old) (S.run calc.new) }
     ensures context { (e : Reading) → IsTrue ((S.run calc.new).is_open e) → context_at S.at context.new e
         ≡ (lines_step page.now.tree.now e.world (apart_at S.at page.now.apart.now e) b (band_at S.at cb.now e)
@@ -329,13 +331,19 @@ pub fn in_lines<S: Steady>(
     ensures cause { BlamesButMem (S.run calc.old) (S.run calc.new) ((e : Reading) → IsTrue ((S.run calc.old).is_open e)
         → InLinesFit page.now.tree.now e.world (apart_at S.at page.now.apart.now e) b (band_at S.at cb.now e)
         (S.at top.now e) (context_at S.at context.old e)) }
+    ensures agrees { Agree S.at (S.run calc.new).is_open context.new.floats }
 {
+    let ended = context.floats.ended;
     let Laid { lines, floats } = lines_in(alloc, calc, page, b, cb, top, context);
     let standing = below(calc, &lines.bottom);
     let least = raised_by(calc, context.least.take(), lines.entries.as_slice());
     *context = Context {
         standing,
-        floats,
+        // Lines place floats behind the earlier ones, so those that had ended have ended still.
+        floats: Floats {
+            placed: floats.placed,
+            ended,
+        },
         least,
         baseline: lines.baseline,
     };

@@ -315,6 +315,7 @@ pub fn open<S: Steady>(
 ) -> Standing<S::Num>
     ensures goes { Goes (S.run calc.old) (S.run calc.new) }
     ensures before { result ≡ context.old.standing }
+    ensures floats { context.new.floats ≡ context.old.floats }
     ensures value { (e : Reading) → IsTrue ((S.run calc.new).is_open e) → context_at S.at context.new e
         ≡ opened (context_at S.at context.old e) (frame_at S.at shape.now e) (standing_at S.at standing e) }
     ensures cause { Blames (S.run calc.old) (S.run calc.new) ((e : Reading) → IsTrue ((S.run calc.old).is_open e)

@@ -1,10 +1,11 @@
 //! The walk over the boxes of a block formatting context (CSS 2.1, 9.4.1).
-ghost use Rattle.std.specs.Prelude.{◌≡◌, ◌<◌, ◌++◌, ℕ, ℤ, Bool, length, slice_index_or, IsTrue};
+ghost use Rattle.std.specs.Prelude.{◌≡◌, ◌<◌, ◌++◌, ℕ, ℤ, Bool, None, length, slice_index_or, IsTrue};
 ghost use Rattle.std.specs.Option.{option_or};
 ghost use Rattle.viz_calc.specs.World.{Reading};
-ghost use Rattle.viz_calc.specs.Run.{Goes, BlamesButMem, Lays};
+ghost use Rattle.viz_calc.specs.Run.{Goes, Blames, BlamesButMem, Lays};
 ghost use Rattle.viz_calc.specs.Renderings.{band_at};
 ghost use Rattle.lay_frame.specs.Readings.{frame_at, boxes_at};
+ghost use Rattle.lay_float.specs.Agreement.{Agree};
 ghost use Rattle.lay_float.specs.Readings.{option_at};
 ghost use Rattle.lay_margin.specs.Runs.{run_at, with_margin};
 ghost use Rattle.flow_steps.specs.Flow.{fresh as fresh_of};
@@ -38,8 +39,12 @@ use viz_calc::Steady;
 
 /// A context where nothing stands yet.
 pub fn fresh<S: Steady>(alloc: Global, calc: &mut S, top: &S::Num) -> Context<S::Num>
-    ensures { Lays S.run calc.old calc.new (context_at S.at result) (λ e. fresh_of (S.at top.now e))
-        (λ e. IsNear (S.at top.now e)) }
+    ensures goes { Goes (S.run calc.old) (S.run calc.new) }
+    ensures value { (e : Reading) → IsTrue ((S.run calc.new).is_open e)
+        → context_at S.at result e ≡ fresh_of (S.at top.now e) }
+    ensures cause { Blames (S.run calc.old) (S.run calc.new) ((e : Reading) → IsTrue ((S.run calc.old).is_open e)
+        → IsNear (S.at top.now e)) }
+    ensures ended { result.floats.ended ≡ None }
 {
     let standing = below(calc, top);
     Context {
@@ -61,6 +66,7 @@ fn float<S: Steady>(
     k: u32,
     out: &mut Vec<Placed<S::Num>>,
 )
+    requires { Agree S.at (S.run calc.old).is_open context.old.floats }
     ensures goes { Goes (S.run calc.old) (S.run calc.new) }
     ensures context { (e : Reading) → IsTrue ((S.run calc.new).is_open e) → context_at S.at context.new e
         ≡ (float_of page.now.tree.now e.world (apart_at S.at page.now.apart.now e) (band_at S.at cb.now e)
@@ -72,6 +78,7 @@ fn float<S: Steady>(
         → IsContextLow (context_at S.at context.old e)
         × (IsBandLow (band_at S.at cb.now e) × (IsNear (S.at top.now e)
         × IsAloneLow (apart_at S.at page.now.apart.now e k)))) }
+    ensures agrees { Agree S.at (S.run calc.new).is_open context.new.floats }
 {
     let size = size_of(calc, page.apart, k);
     let edge = next_edge(calc, &context.standing);
@@ -125,6 +132,7 @@ fn lay_replaced<S: Steady>(
     ensures cause { BlamesButMem (S.run calc.old) (S.run calc.new) ((e : Reading) → IsTrue ((S.run calc.old).is_open e)
         → IsReplacedFit page.now.tree.now e.world b (S.at room.now e)
         × (AreLevelsLow (option_at S.at context.old.least e) × IsFrameLow (frame_at S.at shape.now e))) }
+    ensures floats { context.new.floats ≡ context.old.floats }
 {
     let top = content_top(calc, shape);
     let standing = below(calc, &top);
@@ -160,9 +168,12 @@ fn leave<S: Steady>(
     own: Context<S::Num>,
     context: &mut Context<S::Num>,
 )
-    ensures { Lays S.run calc.old calc.new (context_at S.at context.new)
-        (λ e. left (context_at S.at context.old e) (frame_at S.at shape.now e) (context_at S.at own e))
-        (λ e. AreLevelsLow (option_at S.at context.old.least e) × IsFrameLow (frame_at S.at shape.now e)) }
+    ensures goes { Goes (S.run calc.old) (S.run calc.new) }
+    ensures value { (e : Reading) → IsTrue ((S.run calc.new).is_open e) → context_at S.at context.new e
+        ≡ left (context_at S.at context.old e) (frame_at S.at shape.now e) (context_at S.at own e) }
+    ensures cause { Blames (S.run calc.old) (S.run calc.new) ((e : Reading) → IsTrue ((S.run calc.old).is_open e)
+        → AreLevelsLow (option_at S.at context.old.least e) × IsFrameLow (frame_at S.at shape.now e)) }
+    ensures floats { context.new.floats ≡ context.old.floats }
 {
     let Context {
         standing,
@@ -203,6 +214,7 @@ fn lay_context<S: Steady>(
         (AllFit page.now.tree.now (S.run calc.old).is_open (λ e. WalkFits page.now.tree.now e.world
         (apart_at S.at page.now.apart.now e) (when_starting (band_at S.at cb.now e)
         (context_at S.at context.old e) b (frame_at S.at shape.now e)))) }
+    ensures floats { context.new.floats ≡ context.old.floats }
 {
     let band = content_between(calc, &cb.left, &shape.x);
     let top = content_top(calc, shape);
@@ -236,7 +248,8 @@ fn lay_block<S: Steady>(
     shape: &Shape<S::Num>,
     out: &mut Vec<Placed<S::Num>>,
 ) -> Laid<S::Num>
-    requires { b < length page.now.tree.now.boxes }
+    requires within { b < length page.now.tree.now.boxes }
+    requires agrees { Agree S.at (S.run calc.old).is_open context.old.floats }
     ensures goes { Goes (S.run calc.old) (S.run calc.new) }
     ensures value { (e : Reading) → IsTrue ((S.run calc.new).is_open e) → laid_with S.at result context.new e
         ≡ without_boxes (block_step page.now.tree.now e.world
@@ -250,6 +263,7 @@ fn lay_block<S: Steady>(
         (AllFit page.now.tree.now (S.run calc.old).is_open (λ e. WalkFits page.now.tree.now e.world
         (apart_at S.at page.now.apart.now e) (when_going_on (band_at S.at cb.now e)
         (context_at S.at context.old e) b (cleared_at S.at cleared e) (frame_at S.at shape.now e)))) }
+    ensures agrees { Agree S.at (S.run calc.new).is_open context.new.floats }
 {
     let band = content_between(calc, &cb.left, &shape.x);
     let top = content_top(calc, shape);
@@ -285,7 +299,8 @@ fn lay<S: Steady>(
     cleared: Option<Cleared<S::Num>>,
     out: &mut Vec<Placed<S::Num>>,
 ) -> Laid<S::Num>
-    requires { b < length page.now.tree.now.boxes }
+    requires within { b < length page.now.tree.now.boxes }
+    requires agrees { Agree S.at (S.run calc.old).is_open context.old.floats }
     ensures goes { Goes (S.run calc.old) (S.run calc.new) }
     ensures value { (clears : Bool) (e : Reading) → IsTrue ((S.run calc.new).is_open e)
         → laid_with S.at result context.new e ≡ without_boxes (laid_of page.now.tree.now e.world
@@ -300,6 +315,7 @@ fn lay<S: Steady>(
         (AllFit page.now.tree.now (S.run calc.old).is_open (λ e. WalkFits page.now.tree.now e.world
         (apart_at S.at page.now.apart.now e) (when_reached (band_at S.at cb.now e)
         (context_at S.at context.old e) b (S.at top.now e) (cleared_at S.at cleared e)))) }
+    ensures agrees { Agree S.at (S.run calc.new).is_open context.new.floats }
 {
     let shape = shape(alloc, calc, page, cb, b, top);
     if is_replaced(page.tree, b) {
@@ -324,7 +340,8 @@ fn flow<S: Steady>(
     b: u32,
     out: &mut Vec<Placed<S::Num>>,
 )
-    requires { b < length page.now.tree.now.boxes }
+    requires within { b < length page.now.tree.now.boxes }
+    requires agrees { Agree S.at (S.run calc.old).is_open context.old.floats }
     ensures goes { Goes (S.run calc.old) (S.run calc.new) }
     ensures context { (e : Reading) → IsTrue ((S.run calc.new).is_open e) → context_at S.at context.new e
         ≡ (in_flow page.now.tree.now e.world (apart_at S.at page.now.apart.now e)
@@ -336,6 +353,7 @@ fn flow<S: Steady>(
         (AllFit page.now.tree.now (S.run calc.old).is_open (λ e. WalkFits page.now.tree.now e.world
         (apart_at S.at page.now.apart.now e) (before_flow (band_at S.at cb.now e)
         (context_at S.at context.old e) b))) }
+    ensures agrees { Agree S.at (S.run calc.new).is_open context.new.floats }
 {
     let mut met = reach(alloc, calc, page, cb, context, b);
     // Laying the box out moves the context on; where it collapses through, the next one starts from here again.
@@ -368,7 +386,8 @@ fn child<S: Steady>(
     k: u32,
     out: &mut Vec<Placed<S::Num>>,
 )
-    requires { k < length page.now.tree.now.boxes }
+    requires within { k < length page.now.tree.now.boxes }
+    requires agrees { Agree S.at (S.run calc.old).is_open context.old.floats }
     ensures goes { Goes (S.run calc.old) (S.run calc.new) }
     ensures context { (e : Reading) → IsTrue ((S.run calc.new).is_open e) → context_at S.at context.new e
         ≡ (child_of page.now.tree.now e.world (apart_at S.at page.now.apart.now e)
@@ -381,6 +400,7 @@ fn child<S: Steady>(
         (AllFit page.now.tree.now (S.run calc.old).is_open (λ e. WalkFits page.now.tree.now e.world
         (apart_at S.at page.now.apart.now e) (before_child (band_at S.at cb.now e) (S.at top.now e)
         (context_at S.at context.old e) k))) }
+    ensures agrees { Agree S.at (S.run calc.new).is_open context.new.floats }
 {
     if floats_at(page.tree, k) {
         float(calc, page, cb, top, context, k, out);
@@ -403,6 +423,7 @@ fn children<S: Steady>(
     out: &mut Vec<Placed<S::Num>>,
 )
     requires within { b < length page.now.tree.now.boxes }
+    requires agrees { Agree S.at (S.run calc.old).is_open context.old.floats }
     requires behind { (i : ℕ) → i < length boxes.now
         → (b < slice_index_or boxes.now i 0) × (slice_index_or boxes.now i 0 < length page.now.tree.now.boxes) }
     ensures goes { Goes (S.run calc.old) (S.run calc.new) }
@@ -417,6 +438,7 @@ fn children<S: Steady>(
         (AllFit page.now.tree.now (S.run calc.old).is_open (λ e. WalkFits page.now.tree.now e.world
         (apart_at S.at page.now.apart.now e) (before_children (band_at S.at cb.now e) (S.at top.now e)
         (context_at S.at context.old e) boxes.now))) }
+    ensures agrees { Agree S.at (S.run calc.new).is_open context.new.floats }
 {
     for k in boxes {
         child(alloc, calc, page, cb, top, context, *k, out);
@@ -435,7 +457,8 @@ pub fn content<S: Steady>(
     b: u32,
     out: &mut Vec<Placed<S::Num>>,
 )
-    requires { b < length page.now.tree.now.boxes }
+    requires within { b < length page.now.tree.now.boxes }
+    requires agrees { Agree S.at (S.run calc.old).is_open context.old.floats }
     ensures goes { Goes (S.run calc.old) (S.run calc.new) }
     ensures context { (e : Reading) → IsTrue ((S.run calc.new).is_open e) → context_at S.at context.new e
         ≡ (content_of page.now.tree.now e.world (apart_at S.at page.now.apart.now e) b
@@ -448,6 +471,7 @@ pub fn content<S: Steady>(
         (AllFit page.now.tree.now (S.run calc.old).is_open (λ e. WalkFits page.now.tree.now e.world
         (apart_at S.at page.now.apart.now e) (before_content b (band_at S.at cb.now e)
         (S.at top.now e) (context_at S.at context.old e)))) }
+    ensures agrees { Agree S.at (S.run calc.new).is_open context.new.floats }
 {
     let tree = page.tree;
     if has_line(tree, b) {

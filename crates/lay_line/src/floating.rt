@@ -5,6 +5,7 @@ ghost use Rattle.viz_calc.specs.World.{Reading};
 ghost use Rattle.viz_calc.specs.Run.{Goes, BlamesButMem};
 ghost use Rattle.viz_calc.specs.Renderings.{spot_at, band_at};
 ghost use Rattle.layout_semantics.specs.Floats.{floating, float_spot, with_float_at};
+ghost use Rattle.lay_float.specs.Agreement.{Agree};
 ghost use Rattle.lay_float.specs.Limits.{AreHalf};
 ghost use Rattle.lay_float.specs.Readings.{floats_at, extent_at};
 ghost use Rattle.lay_float.specs.steps.Lent.{lent_at};
@@ -26,6 +27,7 @@ pub fn place_float<S: Steady>(
     least: Option<&S::Num>,
     y: &S::Num,
 ) -> Spot<S::Num>
+    requires { Agree S.at (S.run calc.old).is_open floats.old }
     ensures goes { Goes (S.run calc.old) (S.run calc.new) }
     ensures value { (e : Reading) → IsTrue ((S.run calc.new).is_open e) → spot_at S.at result e
         ≡ float_spot (floating tree.now at (extent_at S.at size.now e) (band_at S.at cb.now e))
@@ -36,6 +38,7 @@ pub fn place_float<S: Steady>(
     ensures cause { BlamesButMem (S.run calc.old) (S.run calc.new) ((e : Reading) → IsTrue ((S.run calc.old).is_open e)
         → AreHalf (floats_at S.at floats.old e) (S.at size.now.width e ∷ S.at size.now.height e
         ∷ S.at cb.now.left e ∷ S.at cb.now.right e ∷ S.at y.now e ∷ option_to_list (lent_at S.at least.entry e))) }
+    ensures agrees { Agree S.at (S.run calc.new).is_open floats.new }
 {
     let side = side_at(tree, at);
     let clear = clear_at(tree, at);

@@ -3,6 +3,7 @@ ghost use Rattle.std.specs.Prelude.{◌≡◌, ◌<◌, [], length, IsTrue, IfOk
 ghost use Rattle.viz_calc.specs.World.{Reading};
 ghost use Rattle.viz_calc.specs.State.{Grows, AreOpen, CauseButMem};
 ghost use Rattle.layout_semantics.specs.Lines.{lines_in};
+ghost use Rattle.lay_float.specs.Agreement.{Agree};
 ghost use Rattle.lay_float.specs.Readings.{floats_at};
 ghost use Rattle.lay_line.specs.Contexts.{context_at};
 ghost use Rattle.lay_line.specs.LinesFit.{LinesFit};
@@ -60,10 +61,15 @@ pub fn lines<C: Calc>(
     ensures cause { IfErr result (CauseButMem (C.state calc.old) (C.state calc.new) ((e : Reading)
         → IsTrue ((C.state calc.old).is_open e) → LinesFit (context_at C.at container.now e) (C.at y.now e)
         (C.at least.now e) (floats_at C.at floats.old e))) }
+    ensures agrees { Agree C.at (C.state calc.new).is_open floats.new }
 {
     let alloc = container.tree.boxes.allocator();
     let before = std::mem::replace(floats, Floats::new(alloc));
     let laid = laid(calc, container, y, least, before)?;
-    *floats = laid.floats;
+    // A line may have taken floats back, so nothing is known of them.
+    *floats = Floats {
+        placed: laid.floats.placed,
+        ended: None,
+    };
     Ok(laid.lines)
 }

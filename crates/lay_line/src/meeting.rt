@@ -93,6 +93,8 @@ fn place_of_line<S: Steady>(
         (at ∷ [])) }
 {
     let size = float_size(calc, container, at);
+    // A line may take floats back, so nothing is known of them.
+    floats.ended = None;
     place_float(
         calc,
         container.tree,

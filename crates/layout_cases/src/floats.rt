@@ -1,4 +1,6 @@
-ghost use Rattle.std.specs.Prelude.{◌≤◌};
+ghost use Rattle.std.specs.Prelude.{◌≡◌, ◌≤◌, None};
+ghost use Rattle.viz_calc.specs.Plain.{plain_state};
+ghost use Rattle.lay_float.specs.Agreement.{Agree};
 
 use case_scribe::{Fault, Scribe};
 use lay_float::{Floats, PlacedFloat};
@@ -54,7 +56,9 @@ fn placed(scribe: &mut Scribe, value: &Value) -> PlacedFloat<i128> {
 }
 
 /// The floats that stand in a list of a case.
-fn floats_of(scribe: &mut Scribe, case: &Value) -> Floats<i128> {
+fn floats_of(scribe: &mut Scribe, case: &Value) -> Floats<i128>
+    ensures { result.ended ≡ None }
+{
     let mut floats = Floats::new(scribe.alloc());
     for value in scribe.list_at(case, 1) {
         let placed = placed(scribe, value);
@@ -83,14 +87,22 @@ fn stretch_at(scribe: &mut Scribe, value: &Value, place: usize) -> Band<i128> {
 
 /// Places one more float: its side, its size, its containing block and its highest top stand at a place of a value and
 /// behind it.
-fn place_one(scribe: &mut Scribe, floats: &mut Floats<i128>, value: &Value, place: usize)
-    requires { place ≤ 100 }
+fn place_one(
+    scribe: &mut Scribe,
+    calc: &mut Plain,
+    floats: &mut Floats<i128>,
+    value: &Value,
+    place: usize,
+)
+    requires few { place ≤ 100 }
+    requires agrees { Agree (λ n e. n) (plain_state calc.old.world).is_open floats.old }
+    ensures { Agree (λ n e. n) (plain_state calc.new.world).is_open floats.new }
 {
     let side = side_at(scribe, value, place);
     let size = extent_at(scribe, value, place + 1);
     let cb = stretch_at(scribe, value, place + 2);
     let top = scribe.units_at(value, place + 3);
-    match floats.place(&mut calc(), side, &size, &cb, &top) {
+    match floats.place(calc, side, &size, &cb, &top) {
         Ok(spot) => scribe.row(&[spot.x, spot.y]),
         Err(halt) => scribe.fail(halt.into()),
     }
@@ -99,15 +111,16 @@ fn place_one(scribe: &mut Scribe, floats: &mut Floats<i128>, value: &Value, plac
 /// The place of a float among others.
 pub fn place(scribe: &mut Scribe, case: &Value) {
     let mut floats = floats_of(scribe, case);
-    place_one(scribe, &mut floats, case, 2);
+    place_one(scribe, &mut calc(), &mut floats, case, 2);
 }
 
 /// The places of floats that come one after another.
 pub fn place_all(scribe: &mut Scribe, case: &Value) {
+    let mut calc = calc();
     let mut floats = Floats::new(scribe.alloc());
     scribe.open();
     for value in scribe.list_at(case, 1) {
-        place_one(scribe, &mut floats, value, 0);
+        place_one(scribe, &mut calc, &mut floats, value, 0);
     }
     scribe.close();
 }

@@ -14,6 +14,7 @@ use Rattle.lay_float.specs.steps.Shelves.{far_edge, shelf_on}
 use Rattle.lay_float.specs.steps.Brackets as brackets
 use Rattle.lay_float.specs.steps.Brackets.{IsBracket}
 use Rattle.lay_float.specs.declared.bands.Room.{Room}
+use Rattle.lay_float.specs.declared.engine.Ahead.{Ahead}
 use Rattle.lay_float.specs.declared.brackets.Bracket.{Bracket}
 use Rattle.lay_float.specs.declared.brackets.Wanted.{Wanted}
 use Rattle.lay_float.specs.declared.shelves.Shelf.{Shelf}
@@ -28,6 +29,9 @@ shelf_at at s e = record { edge = at s.edge.now e; limit = lent_at at s.limit e;
 
 abbrev pub place_at : {N : Type 0} → (N → Reading → ℤ) → Place N → Reading → steps.Place
 place_at at p e = record { top = at p.top.now e; edge = at p.edge.now e }
+
+abbrev pub ahead_at : {N : Type 0} → (N → Reading → ℤ) → Ahead N → Reading → steps.Ahead
+ahead_at at a e = record { high = at a.high.now e; rest = boxes_at at a.rest.now e }
 
 abbrev pub bracket_at : {N : Type 0} → (N → Reading → ℤ) → Bracket N → Reading → brackets.Bracket
 bracket_at at b e = record { taken = at b.taken.now e; found = option_map (λ p. place_at at p e) b.found }

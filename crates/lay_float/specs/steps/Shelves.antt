@@ -7,7 +7,7 @@ use Rattle.viz_base.specs.declared.layouts.Spot.{Spot}
 use Rattle.viz_base.specs.declared.renderings.Quad.{Quad}
 use Rattle.viz_base.specs.declared.styles.Side.{Side}
 use Rattle.viz_base.specs.declared.styles.Side.TheVariants as of_side
-use Rattle.layout_semantics.specs.Floats.{FloatBox}
+use Rattle.layout_semantics.specs.Floats.{FloatBox, highest_top}
 
 -- ---- edges that face the content
 
@@ -94,6 +94,14 @@ is_free side width cb s = stays_within side (far_edge side s.edge width) (limit_
 unfoldable pub open_from : ℤ → List FloatBox → List FloatBox
 open_from y [] = []
 open_from y (f ∷ fs) = cond (int_le f.box.bottom y) (open_from y fs) (f ∷ fs)
+
+-- what a float finds behind others: the highest top that it may have, and the floats that matter from there on
+pub record Ahead : Type 0 where
+  pub high : ℤ
+  pub rest : List FloatBox
+
+abbrev pub ahead_of : List FloatBox → ℤ → Ahead
+ahead_of fs top = record { high = highest_top fs top; rest = open_from (highest_top fs top) fs }
 
 -- ---- from one top to the next
 

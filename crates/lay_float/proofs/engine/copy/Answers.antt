@@ -1,4 +1,4 @@
-use Rattle.std.proofs.Common.{◌∙◌, sym, arith}
+use Rattle.std.proofs.Common.{refl, ◌∙◌, sym, arith}
 use Rattle.std.proofs.lemmas.Grind.{common_steps}
 use Rattle.std.specs.Prelude.{⊤}
 use Rattle.viz_calc.proofs.Runs.{Goes-then, BlamesButMem-then}
@@ -36,4 +36,5 @@ returns g c = record {
       let at = g.S.Steady.at in
       all-copied (λ f. box_at at f e) c.loop-f.out.placed c.args.floats.now c.loop-f.f-index (omega arith) ∙ c.loop-f.invariant.value e o;
   cause = grind (arith, common_steps);
+  ended = refl;
 }

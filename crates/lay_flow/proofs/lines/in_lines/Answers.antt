@@ -2,7 +2,9 @@ use Rattle.std.proofs.Common.{IsTrue, ◌++◌, fold, flat_map, ap, sym, subst, 
 use Rattle.viz_calc.proofs.Runs.{Goes-then}
 use Rattle.layout_semantics.specs.Flow.{raised}
 use Rattle.lay_frame.specs.Readings.{boxes_at}
-use Rattle.lay_float.specs.Readings.{option_at}
+use Rattle.lay_float.specs.Readings.{floats_at, option_at}
+use Rattle.layout_laws.specs.PlacedFloats.{ArePlacedAfter}
+use Rattle.lay_float.proofs.Agreeing.{placed-later}
 use Rattle.lay_line.specs.Readings.{entries_at}
 use Rattle.flow_steps.specs.Flow.{line_tops}
 use Rattle.lay_line.specs.Lining.{laid_at}
@@ -16,8 +18,19 @@ use Rattle.lay_flow.specs.Low.{AreLevelsLow}
 use Rattle.lay_flow.specs.WalkFits.{InLinesFit}
 use Rattle.std.specs.List.{AllByRecursion}
 use Rattle.lay_flow.specs.steps.Flow.{entry_of}
-use Rattle.lay_flow.proofs.InLines.{context-after, boxes-after}
+use Rattle.lay_flow.proofs.InLines.{lines-placed, context-after, boxes-after}
 use Rattle.lay_flow.proofs.lines.in_lines.Goals as goal
+
+pub returns-clause-agrees : goal.returns-clause-agrees
+returns-clause-agrees g c = λ e o.
+    let at = g.S.Steady.at in
+    let page = c.args.page.now in
+    let old = floats_at at c.args.context.now.floats e in
+    let o3 = c.below-standing.ensures.goes.closes e (c.raised_by-least.ensures.goes.closes e (c.add_entries.ensures.goes.closes e o)) in
+    let after = c.lines_in-lines.ensures.value e o3 in
+    placed-later old (floats_at at c.lines_in-lines.result.floats e) c.args.context.now.floats.ended
+    (subst (ArePlacedAfter old) (sym (ap (λ (l : LineList). l.floats) after)) (lines-placed page.tree.now e.world (apart_at at page.apart.now e) c.args.b (band_at at c.args.cb.now e) (at c.args.top.now e) (context_at at c.args.context.now e)))
+    (c.requires.agrees e (c.lines_in-lines.ensures.goes.closes e o3))
 
 pub returns-clause-goes : goal.returns-clause-goes
 returns-clause-goes g c =

@@ -33,7 +33,7 @@ content-returns-then-has_line-clause-context g t c = λ e o.
     let page = c.args.page.now in
     let lines : has_line page.tree.now c.args.b ≡ true = grind arith in
     c.in_lines.ensures.context e o
-    ∙ ap (λ (x : Step). x.context) (by-lines page.tree.now e.world (apart_at at page.apart.now e) c.args.b (band_at at c.args.cb.now e) (at c.args.top.now e) (context_at at c.args.context.now e) c.requires lines)
+    ∙ ap (λ (x : Step). x.context) (by-lines page.tree.now e.world (apart_at at page.apart.now e) c.args.b (band_at at c.args.cb.now e) (at c.args.top.now e) (context_at at c.args.context.now e) c.requires.within lines)
 
 pub content-returns-then-has_line-clause-boxes : goal.content-returns-then-has_line-clause-boxes
 content-returns-then-has_line-clause-boxes g t c = λ e o.
@@ -41,7 +41,7 @@ content-returns-then-has_line-clause-boxes g t c = λ e o.
     let page = c.args.page.now in
     let lines : has_line page.tree.now c.args.b ≡ true = grind arith in
     c.in_lines.ensures.boxes e o
-    ∙ ap (λ (x : Step). boxes_at at c.args.out.now.items e ++ x.boxes) (by-lines page.tree.now e.world (apart_at at page.apart.now e) c.args.b (band_at at c.args.cb.now e) (at c.args.top.now e) (context_at at c.args.context.now e) c.requires lines)
+    ∙ ap (λ (x : Step). boxes_at at c.args.out.now.items e ++ x.boxes) (by-lines page.tree.now e.world (apart_at at page.apart.now e) c.args.b (band_at at c.args.cb.now e) (at c.args.top.now e) (context_at at c.args.context.now e) c.requires.within lines)
 
 pub content-returns-then-not-holds_inline-clause-context : goal.content-returns-then-not-holds_inline-clause-context
 content-returns-then-not-holds_inline-clause-context g t c = λ e o.
@@ -50,7 +50,7 @@ content-returns-then-not-holds_inline-clause-context g t c = λ e o.
     let lines : has_line page.tree.now c.args.b ≡ false = grind arith in
     let blocks : holds_inline page.tree.now c.args.b ≡ false = grind arith in
     c.children.ensures.context e o
-    ∙ ap (λ (x : Step). x.context) (by-children page.tree.now e.world (apart_at at page.apart.now e) c.args.b (band_at at c.args.cb.now e) (at c.args.top.now e) (context_at at c.args.context.now e) c.requires
+    ∙ ap (λ (x : Step). x.context) (by-children page.tree.now e.world (apart_at at page.apart.now e) c.args.b (band_at at c.args.cb.now e) (at c.args.top.now e) (context_at at c.args.context.now e) c.requires.within
     c.kids_at.result.now lines (c.kids_at.ensures.value ∙ sym (flow-kids page.tree.now c.args.b blocks)))
 
 pub content-returns-then-not-holds_inline-clause-boxes : goal.content-returns-then-not-holds_inline-clause-boxes
@@ -60,7 +60,7 @@ content-returns-then-not-holds_inline-clause-boxes g t c = λ e o.
     let lines : has_line page.tree.now c.args.b ≡ false = grind arith in
     let blocks : holds_inline page.tree.now c.args.b ≡ false = grind arith in
     c.children.ensures.boxes e o
-    ∙ ap (λ (x : Step). boxes_at at c.args.out.now.items e ++ x.boxes) (by-children page.tree.now e.world (apart_at at page.apart.now e) c.args.b (band_at at c.args.cb.now e) (at c.args.top.now e) (context_at at c.args.context.now e) c.requires
+    ∙ ap (λ (x : Step). boxes_at at c.args.out.now.items e ++ x.boxes) (by-children page.tree.now e.world (apart_at at page.apart.now e) c.args.b (band_at at c.args.cb.now e) (at c.args.top.now e) (context_at at c.args.context.now e) c.requires.within
     c.kids_at.result.now lines (c.kids_at.ensures.value ∙ sym (flow-kids page.tree.now c.args.b blocks)))
 
 pub content-returns-in-Ok-clause-context : goal.content-returns-in-Ok-clause-context
@@ -69,7 +69,7 @@ content-returns-in-Ok-clause-context g t c = λ e o.
     let page = c.args.page.now in
     let lines : has_line page.tree.now c.args.b ≡ false = grind arith in
     c.children-in-Ok.ensures.context e o
-    ∙ ap (λ (x : Step). x.context) (by-children page.tree.now e.world (apart_at at page.apart.now e) c.args.b (band_at at c.args.cb.now e) (at c.args.top.now e) (context_at at c.args.context.now e) c.requires
+    ∙ ap (λ (x : Step). x.context) (by-children page.tree.now e.world (apart_at at page.apart.now e) c.args.b (band_at at c.args.cb.now e) (at c.args.top.now e) (context_at at c.args.context.now e) c.requires.within
     c.as_slice.result.now lines (c.as_slice.ensures.value ∙ c.in-Ok.ensures.value))
 
 pub content-returns-in-Ok-clause-boxes : goal.content-returns-in-Ok-clause-boxes
@@ -78,7 +78,7 @@ content-returns-in-Ok-clause-boxes g t c = λ e o.
     let page = c.args.page.now in
     let lines : has_line page.tree.now c.args.b ≡ false = grind arith in
     c.children-in-Ok.ensures.boxes e o
-    ∙ ap (λ (x : Step). boxes_at at c.args.out.now.items e ++ x.boxes) (by-children page.tree.now e.world (apart_at at page.apart.now e) c.args.b (band_at at c.args.cb.now e) (at c.args.top.now e) (context_at at c.args.context.now e) c.requires
+    ∙ ap (λ (x : Step). boxes_at at c.args.out.now.items e ++ x.boxes) (by-children page.tree.now e.world (apart_at at page.apart.now e) c.args.b (band_at at c.args.cb.now e) (at c.args.top.now e) (context_at at c.args.context.now e) c.requires.within
     c.as_slice.result.now lines (c.as_slice.ensures.value ∙ c.in-Ok.ensures.value))
 
 pub flow-returns-clause-context : goal.flow-returns-clause-context
@@ -381,6 +381,7 @@ children-loop-k-preserved g t c =
     kid-walk tree e.world (apart e) (cb e) (y e) (s e) boxes i within w) in
     record {
       goes = Goes-then _ _ _ inv.goes own.goes;
+      agrees = own.agrees;
       context = λ e o.
           ap (λ (x : Context). (children_of tree e.world (apart e) (cb e) (y e) x (drop (i + 1) boxes)).context) (own.context e o)
           ∙ sym (ap (λ (q : Step). q.context) (kids-next tree e.world (apart e) (cb e) (y e) (s e) boxes i within))

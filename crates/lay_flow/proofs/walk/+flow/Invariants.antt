@@ -3,6 +3,7 @@ use Rattle.viz_calc.specs.World.{Reading}
 use Rattle.viz_calc.specs.Run.{Goes, BlamesButMem}
 use Rattle.viz_calc.specs.Renderings.{band_at}
 use Rattle.lay_frame.specs.Readings.{boxes_at}
+use Rattle.lay_float.specs.Agreement.{Agree}
 use Rattle.lay_flow.specs.Readings.{apart_at, context_at}
 use Rattle.lay_flow.specs.steps.Flow.{children_of}
 use Rattle.lay_flow.specs.WalkFits.{AllFit, WalkFits, before_children}
@@ -36,6 +37,7 @@ invariant-children-loop-k g l =
     let run = g.S.Steady.run in
     record {
       goes : Goes (run l.fn.calc) (run l.calc);
+      agrees : Agree at (run l.calc).is_open l.context.floats;
       context : (e : Reading) → IsTrue ((run l.calc).is_open e)
           → (children_of l.page.tree.now e.world (apart_at at l.page.apart.now e) (band_at at l.cb e) (at l.top e) (context_at at l.context e) (drop l.k-index l.boxes)).context
           ≡ (children_of l.page.tree.now e.world (apart_at at l.page.apart.now e) (band_at at l.cb e) (at l.top e) (context_at at l.fn.context e) l.boxes).context;

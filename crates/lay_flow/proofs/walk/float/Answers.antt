@@ -17,6 +17,13 @@ use Rattle.lay_flow.proofs.Spots.{place-half, spot-near, spot-lent, half-lent}
 use Rattle.lay_flow.proofs.WalkSteps.{float-context, float-boxes}
 use Rattle.lay_flow.proofs.walk.float.Goals as goal
 
+pub place_float-spot-requires : goal.place_float-spot-requires
+place_float-spot-requires g c = λ e o.
+    c.requires e (c.size_of-size.ensures.goes.closes e (c.next_edge-edge.ensures.goes.closes e (c.copy-from.ensures.goes.closes e (c.greater-y.ensures.goes.closes e o))))
+
+pub returns-clause-agrees : goal.returns-clause-agrees
+returns-clause-agrees g c = λ e o. c.place_float-spot.ensures.agrees e (c.add_apart.ensures.goes.closes e o)
+
 pub returns-clause-context : goal.returns-clause-context
 returns-clause-context g c = λ e o.
     let at = g.S.Steady.at in

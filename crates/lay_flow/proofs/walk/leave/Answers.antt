@@ -17,4 +17,5 @@ returns g c = record {
       (c.baseline_after.ensures at e ∙ ap (λ x. option_or inside (option_at at x e)) c.replace-before.ensures.value)
       ∙ ap (λ (s : Context). record s { baseline = option_or inside s.baseline }) (c.open.ensures.value e o);
   cause = c.open.ensures.cause;
+  floats = c.open.ensures.floats;
 }

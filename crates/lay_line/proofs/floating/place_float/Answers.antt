@@ -7,9 +7,13 @@ use Rattle.layout_semantics.specs.Floats.{floating, float_at, float_top, placed_
 use Rattle.lay_float.specs.Limits.{IsHalf, AreHalf}
 use Rattle.lay_float.specs.Readings.{boxes_at, extent_at, floats_at}
 use Rattle.lay_float.specs.steps.Lent.{lent_at}
+use Rattle.lay_float.proofs.Agreeing.{later}
 use Rattle.lay_float.proofs.Rooms.{top_half}
 use Rattle.lay_line.proofs.Chains.{start_but_mem, next_but_mem, but_mem}
 use Rattle.lay_line.proofs.floating.place_float.Goals as goal
+
+pub place-requires : goal.place-requires
+place-requires g c = later g.S.Steady.at (g.S.Steady.run c.args.calc.now) (g.S.Steady.run c.float_top-top.new.calc) c.args.floats.now c.float_top-top.ensures.goes c.requires
 
 pub returns : goal.returns
 returns g c =
@@ -42,4 +46,5 @@ returns g c =
           let a = f e o in
           let half = subst IsHalf (sym (top.value e o)) (top_half c.clear_at-clear.result (boxes_at at placed e) (least e) (y e) (given e a)) in
           record { edges = a.edges; numbers = (a.numbers.0, (a.numbers.1.0, (a.numbers.1.1.0, (a.numbers.1.1.1.0, (half, tt))))) })).cause;
+      agrees = c.place.ensures.agrees;
     }

@@ -1,4 +1,4 @@
-use Rattle.std.proofs.Common.{◌∷◌, [], ap, sym, subst, ◌∙◌}
+use Rattle.std.proofs.Common.{refl, ◌∷◌, [], ap, sym, subst, ◌∙◌}
 use Rattle.std.specs.Prelude.{Some}
 use Rattle.viz_base.specs.declared.layouts.Extent.{Extent}
 use Rattle.viz_calc.specs.World.{Reading}
@@ -6,12 +6,16 @@ use Rattle.viz_calc.specs.Renderings.{spot_at}
 use Rattle.layout_semantics.specs.Floats.{floating, float_spot, with_float_at}
 use Rattle.lay_float.specs.Limits.{AreHalf}
 use Rattle.lay_float.specs.Readings.{floats_at}
+use Rattle.lay_float.proofs.Agreeing.{unknown}
 use Rattle.lay_line.specs.Contexts.{context_at}
 use Rattle.lay_line.specs.Limits.{PlacesFit}
 use Rattle.lay_line.specs.steps.Words.{size_in, spot_in, floats_with}
 use Rattle.lay_line.proofs.Chains.{start_but_mem, next_but_mem, but_mem}
 use Rattle.lay_line.proofs.Placing.{place_fits, size_small}
 use Rattle.lay_line.proofs.meeting.place_of_line.Goals as goal
+
+pub place_float-requires : goal.place_float-requires
+place_float-requires g c = unknown g.S.Steady.at (g.S.Steady.run c.float_size-size.new.calc).is_open _ refl
 
 pub returns-clause-value : goal.returns-clause-value
 unfolding context_at size_in spot_in

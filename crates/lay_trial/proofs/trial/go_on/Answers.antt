@@ -1,16 +1,15 @@
-use Rattle.std.proofs.Common.{ℤ, IsTrue, List, [], ◌∷◌, ap, sym, subst, ◌∙◌, arith}
-use Rattle.std.proofs.lemmas.Grind.{common_steps}
+use Rattle.std.proofs.Common.{ℤ, IsTrue, List, [], ◌∷◌, ap, sym, subst, ◌∙◌}
 use Rattle.std.specs.Option.{option_to_list}
 use Rattle.std.specs.Prelude.{int_lt}
 use Rattle.viz_calc.specs.World.{Reading}
-use Rattle.viz_calc.proofs.Runs.{BlamesButMem-then}
+use Rattle.viz_calc.proofs.Runs.{Goes-then, BlamesButMem-then}
 use Rattle.layout_semantics.specs.Floats.{FloatBox}
 use Rattle.layout_laws.proofs.Members.{from_filter}
 use Rattle.lay_float.specs.Limits.{AreHalf}
 use Rattle.lay_float.specs.Readings.{boxes_at, floats_at}
 use Rattle.lay_float.specs.steps.Lent.{lent_at}
 use Rattle.lay_trial.specs.Readings.{coming_at}
-use Rattle.lay_trial.specs.Trials.{reaching}
+use Rattle.lay_trial.specs.Trials.{reaching, tried}
 use Rattle.lay_trial.proofs.trial.go_on.Goals as goal
 
 fewer-half : (level : ℤ) (floats : List FloatBox) (numbers : List ℤ) → AreHalf floats numbers → AreHalf (reaching level floats) numbers
@@ -18,8 +17,13 @@ fewer-half level floats numbers h = record { edges = λ f i. h.edges f (from_fil
 
 pub returns : goal.returns
 returns g c = record {
-  goes = grind (arith, common_steps);
-  value = grind (arith, common_steps);
+  goes = Goes-then _ _ _ c.still_open-near.ensures.goes c.try_one.ensures.goes;
+  value = λ e o.
+      let at = g.S.Steady.at in
+      let open_near = c.still_open-near.ensures.value e (c.try_one.ensures.goes.closes e o) in
+      c.try_one.ensures.value e o
+      ∙ ap (λ l. tried (coming_at at c.args.f.now e) (floats_at at c.args.before.all e) l (lent_at at c.args.least e) (at c.args.before.level e))
+      (open_near ∙ ap (λ l. reaching (at c.args.before.level e) (boxes_at at l e)) c.as_slice.ensures);
   cause =
       let at = g.S.Steady.at in
       let run = g.S.Steady.run in

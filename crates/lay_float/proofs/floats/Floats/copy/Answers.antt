@@ -1,7 +1,9 @@
 use Rattle.std.proofs.Common.{◌≡◌, [], sym, subst, ap, ◌∙◌}
+use Rattle.lay_float.specs.Agreement.{Agree}
 use Rattle.lay_float.specs.Limits.{AreHalf}
 use Rattle.lay_float.specs.Readings.{boxes_at, floats_at}
-use Rattle.viz_calc.proofs.Latched.{IsLent, grows, keeps, opened, told, caused_but_mem}
+use Rattle.viz_calc.proofs.Latched.{IsLent, grows, keeps, opened, told, holds, caused_but_mem}
+use Rattle.lay_float.proofs.Agreeing.{unknown}
 use Rattle.lay_float.proofs.floats.Floats.copy.Goals as goal
 
 pub returns : goal.returns
@@ -19,4 +21,5 @@ returns g c =
       cause = caused_but_mem c.finish.result _ _ _ _ _ _ _ _ _ _ lent (λ f e o. subst (λ l. AreHalf (boxes_at at l e) []) (sym c.as_slice.ensures) (f e (opened _ _ _ _ _ lent e o)))
           inner.cause c.finish.ensures.halt;
       kept = keeps _ _ _ _ _ _ _ _ lent inner.goes (g.met.C.Calc.keeps _);
+      agrees = holds (λ r. Agree at (state c.calc-1.given.0).is_open r) c.finish.result _ c.finish.ensures.ok (unknown at (state c.calc-1.given.0).is_open c.copy-copied.result inner.ended);
     }
