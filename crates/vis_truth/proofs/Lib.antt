@@ -5,3 +5,4 @@ pub mod Witnesses
 pub mod Bounds
 pub mod Blamed
 pub mod PlainScenes
+pub mod Views

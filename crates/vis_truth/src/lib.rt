@@ -5,9 +5,11 @@ mod blames;
 mod boxes;
 pub mod engine;
 mod names;
+mod premises;
 mod terms;
 mod verdicts;
 
 pub use blames::blame;
 pub use names::Names;
+pub use premises::conclusion;
 pub use verdicts::{truth, truth_in};
