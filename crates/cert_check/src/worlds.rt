@@ -1,26 +1,42 @@
-ghost use Rattle.std.specs.Prelude.{◌≡◌, IfOk, MatchOption};
-ghost use Rattle.logic_semantics.specs.Ranges.{IsInRange};
-ghost use Rattle.cert_check.specs.Truths.{is_true_at, IsTrueIn, IsFirstUntrueIn};
+ghost use Rattle.std.specs.Prelude.{◌≡◌, IsTrue, IfOk, MatchOption};
+ghost use Rattle.viz_base.specs.Formulas.{has_small_terms};
+ghost use Rattle.logic_semantics.specs.Ranges.{IsInRange, holds_at as holds_there};
+ghost use Rattle.cert_check.specs.Truths.{is_true_at, rendering_of, IsTrueIn, IsFirstUntrueIn};
 ghost use Rattle.cert_check.specs.Rectangles.{IsWithin};
 
 use crate::look::{Look, first_world};
 use lay_flow::render_at;
 use std::alloc::Global;
-use vis_truth::truth;
-use viz_base::{Job, Mem, Rect, World};
+use vis_truth::{conclusion, truth};
+use viz_base::{Formula, Job, Mem, Rect, World};
 use viz_calc::Plain;
+
+/// Whether a formula with small terms is true of a page's rendering at a world of the job's range.
+fn laid_out_at(alloc: Global, job: &Job, f: &Formula, world: World) -> Result<bool, Mem>
+    requires in_range { IsInRange job.now.range world }
+    requires small { IsTrue (has_small_terms f.now) }
+    ensures { IfOk result (λ yes. yes ≡ holds_there (rendering_of job.now) f.now world) }
+{
+    let rendering = render_at(alloc, world, &job.tree)?;
+    let mut calc = Plain::new(world);
+    match truth(&mut calc, f, &rendering) {
+        Ok(yes) => Ok(yes),
+        Err(_) => unreachable!(),
+    }
+}
 
 /// Whether a job's formula is true of its page's rendering at a world of the job's range.
 ///
-/// It lays the page out once, and copies nothing of the job. The only fault is want of memory.
+/// It lays the page out once, or not at all where a premise is false that asks for no box, and copies nothing of the
+/// job. The only fault is want of memory.
 pub fn holds_at(alloc: Global, job: &Job, world: World) -> Result<bool, Mem>
     requires in_range { IsInRange job.now.range world }
     ensures { IfOk result (λ yes. yes ≡ is_true_at job.now world) }
 {
-    let rendering = render_at(alloc, world, &job.tree)?;
     let mut calc = Plain::new(world);
-    match truth(&mut calc, &job.formula, &rendering) {
-        Ok(yes) => Ok(yes),
+    match conclusion(alloc, &mut calc, &job.formula) {
+        Ok(Some(left)) => laid_out_at(alloc, job, left, world),
+        Ok(None) => Ok(true),
         Err(_) => unreachable!(),
     }
 }

@@ -1,33 +1,30 @@
-use Rattle.std.proofs.Common.{◌≡◌, ℤ, IsTrue, ap, ◌∙◌}
-use Rattle.viz_base.specs.declared.renderings.Rendering.{Rendering}
+use Rattle.std.proofs.Common.{IsTrue, sym, ap, subst, ◌∙◌}
+use Rattle.std.proofs.lemmas.Result.{IfOk-weaker}
+use Rattle.std.specs.Option.{option_copied}
 use Rattle.viz_calc.specs.Plain.{plain_state, plain_reading}
-use Rattle.logic_semantics.specs.Scenes.{scene_of}
-use Rattle.logic_semantics.specs.Truth.{truth}
-use Rattle.vis_truth.specs.Scenes.{IsNarrow, IsTame, scene_at}
+use Rattle.vis_truth.specs.Premises.{IsLeftAt}
 use Rattle.viz_calc.proofs.PlainLemmas.{open_reading, world-stays}
-use Rattle.vis_truth.proofs.PlainScenes.{never-halts, plain-tame, rendering-same}
-use Rattle.cert_check.proofs.Bounded.{narrow_world, rendering_bounded}
+use Rattle.cert_check.specs.Truths.{rendering_of}
 use Rattle.cert_check.proofs.worlds.holds_at.Goals as goal
 
-pub unreachable-requires : goal.unreachable-requires
-unreachable-requires c =
+pub returns-in-Ok-Some : goal.returns-in-Ok-Some
+returns-in-Ok-Some c =
     let job = c.args.job.now in
-    let narrow = narrow_world job c.args.world c.requires.in_range in
-    let bounded = rendering_bounded c.in_ok-rendering.rendering c.in_ok-rendering.ensures.low in
-    let same = c.new-calc.ensures in
-    let wide : IsNarrow c.new-calc.result.world = rw same narrow in
-    never-halts c.new-calc.result.world c.truth.new.calc.world (IsTame (plain_state c.new-calc.result.world).is_open (λ n e. n) c.in_ok-rendering.rendering job.formula)
-    c.in-Err.field-0 (plain-tame c.new-calc.result.world c.in_ok-rendering.rendering job.formula wide bounded job.ok.small_terms) (c.in-Err.ensures).cause
+    let w = c.new-calc.result.world in
+    let stays = world-stays w c.conclusion.new.calc.world (c.in-Ok-Some.ensures).grows in
+    let is_open : IsTrue ((plain_state c.conclusion.new.calc.world).is_open (plain_reading w)) = rw stays (open_reading w) in
+    let there = c.in-Ok-Some.ensures.value (plain_reading w) is_open in
+    let here = subst (λ v. IsLeftAt v job.formula (option_copied c.in-Ok-Some.field-0)) c.new-calc.ensures there in
+    let left = subst (IsLeftAt c.args.world job.formula) (ap option_copied c.in-Ok-Some.field-0-is) here in
+    IfOk-weaker c.laid_out_at.result _ _ (λ b h. h ∙ sym (left (rendering_of job c.args.world))) c.laid_out_at.ensures
 
-pub returns : goal.returns
-returns c =
+pub returns-in-Ok-None : goal.returns-in-Ok-None
+returns-in-Ok-None c =
     let job = c.args.job.now in
-    let e = plain_reading c.new-calc.result.world in
-    let stays = world-stays c.new-calc.result.world c.truth.new.calc.world (c.in-Ok.ensures).grows in
-    let is_open : IsTrue ((plain_state c.truth.new.calc.world).is_open e) = rw stays (open_reading c.new-calc.result.world) in
-    let value : c.in-Ok.yes ≡ truth (scene_at (λ n e. n) c.in_ok-rendering.rendering e) job.formula = (c.in-Ok.ensures).value e is_open in
-    let as_is : scene_at (λ n e. n) c.in_ok-rendering.rendering e ≡ scene_of c.in_ok-rendering.rendering c.new-calc.result.world
-    = ap (λ (r : Rendering ℤ). scene_of r c.new-calc.result.world) (rendering-same e c.in_ok-rendering.rendering) in
-    value ∙ ap (λ s. truth s job.formula) as_is
-    ∙ ap (λ w. truth (scene_of c.in_ok-rendering.rendering w) job.formula) c.new-calc.ensures
-    ∙ ap (λ r. truth (scene_of r c.args.world) job.formula) c.in_ok-rendering.ensures.value
+    let w = c.new-calc.result.world in
+    let stays = world-stays w c.conclusion.new.calc.world (c.in-Ok-None.ensures).grows in
+    let is_open : IsTrue ((plain_state c.conclusion.new.calc.world).is_open (plain_reading w)) = rw stays (open_reading w) in
+    let there = c.in-Ok-None.ensures.value (plain_reading w) is_open in
+    let here = subst (λ v. IsLeftAt v job.formula (option_copied c.in-Ok-None.field-0)) c.new-calc.ensures there in
+    let left = subst (IsLeftAt c.args.world job.formula) (ap option_copied c.in-Ok-None.field-0-is) here in
+    sym (left (rendering_of job c.args.world))
