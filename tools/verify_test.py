@@ -166,7 +166,7 @@ def commands():
             ("breakpoints-meets.json", [], 0, "holds at all 64 sizes: 3 certificates in a file of 264 bytes, which check accepts\n"),
             ("breakpoints-meets.json", ["--parts", "2"], 0, "holds at all 64 sizes: 2 certificates, one for each part, which check accepts; there is "
              "no one file of a page with width queries\n"),
-            ("pages/breakpoints.json", [], 1, "broken first at 599 px and 12 px: div.card “KettleHolds two litres.” is 577 px wide, and at most"),
+            ("pages/breakpoints.json", [], 1, "broken first at 599 px and 18 px: div.card “KettleHolds two litres.” is 577 px wide, and at most"),
             ("pages/badge.json", [], 5,
              "refused by the profile, docs/PROFILE.md: job-refused unsupported-value 7 position absolute (node 7 is span.badge)\n")):
         with tempfile.TemporaryDirectory() as folder:

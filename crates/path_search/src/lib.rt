@@ -3,6 +3,7 @@
 #![tactic(auto)]
 
 mod heights;
+mod premises;
 mod rectangles;
 mod runs;
 mod sampling;

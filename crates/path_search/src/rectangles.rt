@@ -1,6 +1,7 @@
 //! Rectangles of a range by trees of leaves, and those with too many leaves by their halves.
 ghost use Rattle.std.specs.Prelude.{◌≤◌};
 
+use crate::premises::edge_within;
 use crate::sampling::Sample;
 use crate::seeking::{
     GRID, Part, Place, Stop, below, count_of, enter, explore, first_pool, halving, leave, put_split,
@@ -42,6 +43,9 @@ pub fn rectangle(place: &mut Place<'_>, part: Part) -> Result<(), Stop>
     if count_of(part.rect) <= GRID {
         let mut pool = Pool::new(place.alloc);
         return explore(place, &mut pool, part);
+    }
+    if let Some(row) = edge_within(place, part.rect)? {
+        return in_parts(place, part, &row);
     }
     if is_tree(place, part)? {
         return Ok(());
@@ -130,23 +134,23 @@ fn tree(place: &mut Place<'_>, pool: &mut Pool, part: Part) -> Result<(), Stop>
 fn in_halves(place: &mut Place<'_>, part: Part) -> Result<(), Stop>
     ensures falls { place.new.turns ≤ place.old.turns }
 {
-    let Some(turns) = place.turns.checked_sub(1) else {
-        return Err(Stop::GaveUp);
-    };
-    if turns < most_turns(Budget::Tight, place.seen(part.rect)) / 4 {
+    if place.turns <= most_turns(Budget::Tight, place.seen(part.rect)) / 4 {
         return Err(Stop::GaveUp);
     }
-    let part = part.lower()?;
-    place.turns = turns;
     let row = halving(place, part.rect)?;
-    halved(place, part, &row)
+    in_parts(place, part, &row)
 }
 
 /// Finds the node of a rectangle by the two parts into which a row cuts it.
 #[cycle(rectangles)]
-fn halved(place: &mut Place<'_>, part: Part, row: &Row) -> Result<(), Stop>
+fn in_parts(place: &mut Place<'_>, part: Part, row: &Row) -> Result<(), Stop>
     ensures falls { place.new.turns ≤ place.old.turns }
 {
+    let Some(turns) = place.turns.checked_sub(1) else {
+        return Err(Stop::GaveUp);
+    };
+    let part = part.lower()?;
+    place.turns = turns;
     half(place, Child::First, part, row)?;
     half(place, Child::Second, part, row)?;
     put_split(place.alloc, &mut place.nodes, row)

@@ -2,7 +2,7 @@ use lay_flow::render;
 use lin_proof::Answer;
 use path_calc::{Opening, Seeker};
 use std::alloc::Global;
-use vis_truth::truth;
+use vis_truth::{conclusion, truth};
 use viz_base::{Job, List, Mem};
 use viz_calc::{Calc, Halt};
 
@@ -23,8 +23,19 @@ pub enum Outcome {
 
 /// Whether a job's formula is true of its page's rendering, over a calc.
 pub fn truth_over<C: Calc>(alloc: Global, job: &Job, calc: &mut C) -> Result<bool, Halt> {
+    let Some(left) = conclusion(alloc, calc, &job.formula)? else {
+        return Ok(true);
+    };
     let rendering = render(alloc, calc, &job.tree)?;
-    truth(calc, &job.formula, &rendering)
+    truth(calc, left, &rendering)
+}
+
+/// Asks the premises without quantifiers under which a job's formula stands, over a calc.
+pub fn ask_premises<C: Calc>(alloc: Global, job: &Job, calc: &mut C) -> Result<(), Mem> {
+    match conclusion(alloc, calc, &job.formula) {
+        Err(Halt::Mem) => Err(Mem),
+        _ => Ok(()),
+    }
 }
 
 /// What a run comes to that ended with this answer.

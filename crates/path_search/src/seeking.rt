@@ -2,7 +2,7 @@ ghost use Rattle.std.specs.Prelude.{◌≡◌, ◌≤◌};
 
 use crate::heights::{flattened, is_flat, rests_on_height};
 use crate::rectangles::{Budget, budget_of, rectangle};
-use crate::runs::{Outcome, outcome_of, truth_over};
+use crate::runs::{Outcome, ask_premises, outcome_of, truth_over};
 use crate::slices::{ends_met, pools_under, slices_of};
 use crate::tiling::{Cut, cut_of_flat, cut_of_tiles};
 use cert_check::{Child, cut_of, holds_at, middle, part_of};
@@ -304,6 +304,22 @@ fn laid_out(place: &mut Place<'_>, pool: &mut Pool) -> Result<Outcome, Mem>
     outcome
 }
 
+/// The premise without quantifiers that is left open on a path on which nothing was found yet, if one is.
+pub fn open_premise(place: &mut Place<'_>, pool: &mut Pool) -> Result<Option<Opening>, Mem>
+    ensures { place.new.turns ≡ place.old.turns }
+{
+    let Some(footing) = Footing::on(&place.path, place.named.as_slice()) else {
+        return Ok(None);
+    };
+    let mut seeker = Seeker::new(footing, pool, &mut place.found)?;
+    let asked = ask_premises(place.alloc, place.job, &mut seeker);
+    let opening = seeker.opened();
+    drop(seeker);
+    place.found.truncate(0);
+    asked?;
+    Ok(opening)
+}
+
 /// The formula is false at each of these worlds.
 fn untrue(place: &Place<'_>, pool: &Pool) -> Stop {
     match pool.first_world(place.job.form, place.job.range) {
@@ -363,7 +379,7 @@ fn has_room(depth: u32, floors: &[Floor]) -> bool {
 }
 
 /// The same row where it is no row of one axis alone; else one with the coefficient 1 or -1 and the same signs.
-fn cut_once(alloc: Global, form: u8, row: &Row) -> Result<Row, Stop> {
+pub fn cut_once(alloc: Global, form: u8, row: &Row) -> Result<Row, Stop> {
     // A row of one axis cuts the rectangle only with the coefficient 1 or -1, and its grids are smaller then.
     let unit = match row.terms.as_slice() {
         [term] => match axis_of(form, term.0) {
