@@ -1,1 +1,4 @@
 pub mod Sound
+mod Cancelling
+mod ClosingSums
+mod Divisors

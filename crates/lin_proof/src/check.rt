@@ -6,7 +6,7 @@ ghost use Rattle.lin_proof.specs.steps.Answers.{wrong_line};
 
 use crate::derivation::{Branch, Derivation, Ending};
 use crate::facts::Facts;
-use crate::steps::{Fault, case_row, is_contradiction, run};
+use crate::steps::{Fault, case_row, is_closed, run};
 use lin_row::Row;
 use std::alloc::Global;
 use viz_base::{List, Mem};
@@ -97,7 +97,7 @@ fn check_end(
     ensures known { OnOk result (known.new ≡ known.old) }
 {
     match end {
-        Ending::Closed if is_contradiction(known) => Ok(line + 1),
+        Ending::Closed if is_closed(known) => Ok(line + 1),
         Ending::Closed => Err(Fault::Line(line)),
         Ending::Cases(branch) => check_cases(alloc, facts, vars, branch.get(), known, line),
     }

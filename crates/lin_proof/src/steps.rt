@@ -1,11 +1,12 @@
 ghost use Rattle.std.specs.Prelude.{◌≡◌, ◌+◌, ◌<◌, ◌^◌, ◌++◌, length, take, IfOk, OnOk};
 ghost use Rattle.viz_base.specs.Answers.{Gives};
-ghost use Rattle.lin_row.specs.Form.{checked_form, denied, plus};
+ghost use Rattle.lin_row.specs.Form.{checked_form, denied};
 ghost use Rattle.lin_proof.specs.Derivations.{add_part, are_declared, case_form, cut_of, is_contradiction, last_of, run_steps, step_form, sum_from, zero_form};
 ghost use Rattle.lin_proof.specs.steps.Answers.{wrong_line};
 
 use crate::derivation::Step;
 use crate::facts::Facts;
+use crate::pairs::{added, is_contradiction};
 use lin_row::{Row, RowFault};
 use std::alloc::{AllocError, Global};
 use viz_base::{List, Mem};
@@ -38,17 +39,6 @@ impl From<Mem> for Fault {
 
     fn from(_: Mem) -> Self {
         Fault::Mem
-    }
-}
-
-/// A row plus a multiple of another, if its numbers are in `i128`.
-fn added(sum: &Row, times: i128, row: &Row) -> Result<Option<Row>, Mem>
-    ensures { IfOk result (λ next. next ≡ checked_form (plus sum.now times row.now)) }
-{
-    match sum.add_scaled(times, row) {
-        Ok(next) => Ok(Some(next)),
-        Err(RowFault::Coeff) => Ok(None),
-        Err(RowFault::Mem) => Err(Mem),
     }
 }
 
@@ -164,11 +154,11 @@ fn are_declared(terms: &[(u32, i128)], variables: u32) -> bool
 }
 
 /// Whether the last row says that a number below 0 is at least 0.
-pub fn is_contradiction(known: &List<Row>) -> bool
+pub fn is_closed(known: &List<Row>) -> bool
     ensures { result ≡ is_contradiction (last_of known.now) }
 {
     match known.as_slice().last() {
-        Some(row) => row.terms.is_empty() && row.k < 0,
+        Some(row) => is_contradiction(row),
         None => false,
     }
 }

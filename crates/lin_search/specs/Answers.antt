@@ -3,7 +3,7 @@ use Rattle.std.specs.Prelude.{◌≡◌, ℕ, ◌*◌, ◌≤◌, ℤ, pos, fals
 use Rattle.lin_row.specs.Form.{Form}
 use Rattle.lin_proof.specs.Law.{Meets}
 use Rattle.lin_proof.specs.Derivations.{Refutes, is_contradiction}
-use Rattle.lin_pairs.specs.Pairs.{closes}
+use Rattle.lin_proof.specs.Pairs.{closes}
 use Rattle.lin_search.specs.declared.answer.Search.{Search}
 use Rattle.lin_search.specs.declared.answer.Search.TheVariants.{Found, Point, GaveUp}
 

@@ -4,8 +4,7 @@ ghost use Rattle.lin_search.specs.Answers.{NoneAtHand};
 ghost use Rattle.lin_row.specs.Form.{Form};
 ghost use Rattle.lin_search.specs.steps.Pairs.{HasPartner, IsAlone, IsPair, NoPartner, NoneAlone, NonePaired};
 
-use lin_pairs::{Multiples, closing, is_contradiction};
-use lin_proof::{Derivation, Ending, Step};
+use lin_proof::{Derivation, Ending, Multiples, Step, closing, is_contradiction};
 use lin_row::Row;
 use std::alloc::Global;
 use viz_base::{List, Mem};

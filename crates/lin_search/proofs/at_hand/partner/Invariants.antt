@@ -1,7 +1,7 @@
 use Rattle.std.proofs.Common.{◌≡◌, ◌<◌, ℕ, ℤ, false, Some}
 use Rattle.std.specs.Prelude.{slice_get}
 use Rattle.lin_row.specs.Form.{Form}
-use Rattle.lin_pairs.specs.Pairs.{closes}
+use Rattle.lin_proof.specs.Pairs.{closes}
 use Rattle.lin_search.proofs.at_hand.partner.Given as goal
 
 abbrev pub invariant-loop-at : goal.invariant-loop-at

@@ -14,9 +14,9 @@ use Rattle.lin_row.proofs.Merges.{put_nonzero}
 use Rattle.lin_row.proofs.Values.{terms_value-plus_terms}
 use Rattle.lin_row.proofs.Whole.{distribute_left, associate, times_above}
 use Rattle.lin_proof.specs.Derivations.{zero_form, checked_plus, sum_from, is_contradiction}
-use Rattle.lin_pairs.specs.declared.multiples.Multiples.{Multiples}
-use Rattle.lin_pairs.specs.Multiples.{Cancels, IsLeast, NoneCancel}
-use Rattle.lin_pairs.specs.Pairs.{IsBest, IsFirst, closes, sum_of_two}
+use Rattle.lin_proof.specs.declared.multiples.Multiples.{Multiples}
+use Rattle.lin_proof.specs.Multiples.{Cancels, IsLeast, NoneCancel}
+use Rattle.lin_proof.specs.Pairs.{IsBest, IsFirst, closes, sum_of_two}
 
 -- ---- what a sum that closes is made of
 

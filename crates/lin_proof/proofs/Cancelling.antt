@@ -7,8 +7,8 @@ use Rattle.std.proofs.lemmas.Int.{ints, unsigned_abs-mul, fits_signed_from_abs}
 use Rattle.std.proofs.lemmas.Bool.{false≢true, cases_lt}
 use Rattle.std.proofs.lemmas.Bool.Decides.{nat_tests}
 use Rattle.lin_row.specs.Number.{in_i128}
-use Rattle.lin_pairs.specs.Multiples.{Cancels, IsLeast, IsLowest, NoneCancel}
-use Rattle.lin_pairs.proofs.Divisors.{positive}
+use Rattle.lin_proof.specs.Multiples.{Cancels, IsLeast, IsLowest, NoneCancel}
+use Rattle.lin_proof.proofs.Divisors.{positive}
 
 opposite_sizes : (x y : ℤ) → x +ℤ y ≡ pos 0 → unsigned_abs x ≡ unsigned_abs y
 opposite_sizes (pos m) (pos n) h = omega (arith, ints, h)

@@ -1,6 +1,6 @@
 use Rattle.std.proofs.Common.{ℕ, ◌*◌}
-use Rattle.lin_pairs.specs.Multiples.{Divides}
-use Rattle.lin_pairs.proofs.multiples.common_divisor.Given as goal
+use Rattle.lin_proof.specs.Multiples.{Divides}
+use Rattle.lin_proof.proofs.multiples.common_divisor.Given as goal
 
 abbrev pub invariant-loop-low : goal.invariant-loop-low
 invariant-loop-low l = record {

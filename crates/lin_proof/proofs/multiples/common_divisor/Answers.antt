@@ -1,7 +1,7 @@
 use Rattle.std.proofs.Common.{◌≡◌, arith, subst, sym}
-use Rattle.lin_pairs.specs.Multiples.{Divides}
-use Rattle.lin_pairs.proofs.Divisors.{lifted, undone, of_itself, of_zero}
-use Rattle.lin_pairs.proofs.multiples.common_divisor.Goals as goal
+use Rattle.lin_proof.specs.Multiples.{Divides}
+use Rattle.lin_proof.proofs.Divisors.{lifted, undone, of_itself, of_zero}
+use Rattle.lin_proof.proofs.multiples.common_divisor.Goals as goal
 
 pub loop-low-preserved : goal.loop-low-preserved
 loop-low-preserved c =

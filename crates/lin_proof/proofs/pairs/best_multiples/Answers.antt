@@ -1,8 +1,8 @@
 use Rattle.std.proofs.Common.{rules, FitsSigned}
 use Rattle.std.specs.Int.{w128}
 use Rattle.std.proofs.lemmas.Int.{to_z-of_z}
-use Rattle.lin_pairs.proofs.ClosingSums.{first_empty, second_empty, apart, told}
-use Rattle.lin_pairs.proofs.pairs.best_multiples.Goals as goal
+use Rattle.lin_proof.proofs.ClosingSums.{first_empty, second_empty, apart, told}
+use Rattle.lin_proof.proofs.pairs.best_multiples.Goals as goal
 
 pub returns-in_default : goal.returns-in_default
 returns-in_default c =

@@ -1,8 +1,8 @@
 use Rattle.std.proofs.Common.{◌≡◌, pos, arith, to_z, of_z, FitsSigned}
 use Rattle.std.specs.Int.{w128}
 use Rattle.std.proofs.lemmas.Int.{ints, to_z-of_z}
-use Rattle.lin_pairs.proofs.Cancelling.{IsLeast-of, NoneCancel-first, NoneCancel-second, opposite_signs, at_least_half}
-use Rattle.lin_pairs.proofs.multiples.least_multiples.Goals as goal
+use Rattle.lin_proof.proofs.Cancelling.{IsLeast-of, NoneCancel-first, NoneCancel-second, opposite_signs, at_least_half}
+use Rattle.lin_proof.proofs.multiples.least_multiples.Goals as goal
 
 pub returns-in_default : goal.returns-in_default
 returns-in_default c =

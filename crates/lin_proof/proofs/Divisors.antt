@@ -1,7 +1,7 @@
 -- Euclid's algorithm, and factors that make two numbers equal.
 use Rattle.std.proofs.Common.{◌≡◌, ℕ, zero, suc, ◌+◌, ◌-◌, ◌*◌, ◌/◌, ◌%◌, ◌<◌, sym, ◌∙◌, ap, arith}
 use Rattle.std.proofs.Math.Nat.{mul-sub, mod-add-div, mul-div_cancel_left}
-use Rattle.lin_pairs.specs.Multiples.{Divides, IsCommon, IsLowest}
+use Rattle.lin_proof.specs.Multiples.{Divides, IsCommon, IsLowest}
 
 -- what divides a multiple of x and of y divides that of the remainder
 pub lifted : (n k x y : ℕ) → Divides n (k * x) → Divides n (k * y) → Divides n (k * (x % y))

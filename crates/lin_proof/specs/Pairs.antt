@@ -3,7 +3,7 @@ use Rattle.std.specs.Prelude.{◌≡◌, true, ℕ, ℤ, pos, ◌<ℤ◌, Bool, 
 use Rattle.lin_row.specs.Number.{in_i128}
 use Rattle.lin_row.specs.Form.{Form, Terms}
 use Rattle.lin_proof.specs.Derivations.{is_contradiction, sum_from, zero_form}
-use Rattle.lin_pairs.specs.declared.multiples.Multiples.{Multiples}
+use Rattle.lin_proof.specs.declared.multiples.Multiples.{Multiples}
 
 -- the sum of positive multiples of two forms, one added after the other, if every number on the way is in `i128`
 abbrev pub sum_of_two : Form → ℤ → Form → ℤ → Option Form

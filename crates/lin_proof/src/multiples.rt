@@ -1,5 +1,5 @@
 ghost use Rattle.std.specs.Prelude.{◌≡◌, ◌≢◌, ◌<◌, pos, MatchOption};
-ghost use Rattle.lin_pairs.specs.Multiples.{IsCommon, IsLeast, IsLowest, NoneCancel};
+ghost use Rattle.lin_proof.specs.Multiples.{IsCommon, IsLeast, IsLowest, NoneCancel};
 
 /// Multiples of two numbers.
 #[derive(Clone, Copy)]

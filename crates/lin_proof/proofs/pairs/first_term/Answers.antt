@@ -1,8 +1,8 @@
 use Rattle.std.proofs.Common.{◌≡◌, ◌∙◌, Option, ℕ, ℤ, [], MatchOption, ap, subst, sym}
 use Rattle.std.specs.Prelude.{slice_get}
-use Rattle.lin_pairs.specs.Pairs.{IsFirst}
-use Rattle.lin_pairs.proofs.ClosingSums.{first_is}
-use Rattle.lin_pairs.proofs.pairs.first_term.Goals as goal
+use Rattle.lin_proof.specs.Pairs.{IsFirst}
+use Rattle.lin_proof.proofs.ClosingSums.{first_is}
+use Rattle.lin_proof.proofs.pairs.first_term.Goals as goal
 
 pub returns-clause-first : goal.returns-clause-first
 returns-clause-first c =

@@ -1,3 +1,0 @@
-mod Cancelling
-mod ClosingSums
-mod Divisors
