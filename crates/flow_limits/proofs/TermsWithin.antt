@@ -17,7 +17,7 @@ use Rattle.layout_semantics.specs.Horizontal.{terms_around, sum_of, available, l
 use Rattle.layout_semantics.specs.Lengths.{used, used_unless_auto, maximum, own, margins}
 use Rattle.layout_semantics.specs.Preferred.{preferred}
 use Rattle.layout_semantics.specs.Replaced.{replaced_size}
-use Rattle.lay_reach.proofs.Numbers.{held-from, held-to}
+use Rattle.lay_length.proofs.SmallNumbers.{held-from, held-to}
 use Rattle.flow_limits.specs.Boxes.{AreWidthsSmall, IsHeightHeld, IsBoxSmall, edges_at, IsWidthWithin, ArePropertiesSmall}
 
 -- ---- numbers

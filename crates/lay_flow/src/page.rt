@@ -8,7 +8,7 @@ ghost use Rattle.layout_semantics.specs.InlineContent.{is_floated_at};
 ghost use Rattle.layout_semantics.specs.Page.{page_rendering};
 ghost use Rattle.lay_frame.specs.Readings.{boxes_at};
 ghost use Rattle.lay_preferred.specs.Readings.{AreFound};
-ghost use Rattle.lay_reach.specs.Limits.{IsWithinLimits};
+ghost use Rattle.lay_length.specs.Limits.{IsWithinLimits};
 ghost use Rattle.flow_steps.specs.Tables.{outside_of as outside, page_boxes};
 ghost use Rattle.lay_flow.specs.AloneFits.{BoxAddedFits, BoxesAddedFit, ContainerFits, PageComesFit, TableFits};
 ghost use Rattle.lay_flow.specs.WalkFits.{AllFit};

@@ -1,8 +1,10 @@
-//! Used lengths, font sizes, line heights and the widths of texts, over any arithmetic.
+//! Used lengths, font sizes, line heights and the widths of texts, over any arithmetic; and how large they are on a
+//! small page.
 #![tactic(auto)]
 
 pub mod fonts;
 mod front;
+mod laws;
 pub mod lengths;
 pub mod texts;
 

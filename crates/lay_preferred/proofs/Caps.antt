@@ -19,7 +19,7 @@ use Rattle.layout_laws.proofs.Levels.{IsFrom, All-implied, kids-within}
 use Rattle.lay_line.specs.steps.Marks.{marks}
 use Rattle.lay_width.specs.Fitting.{own_width_of, MostFits, RatioFits}
 use Rattle.lay_width.specs.steps.Terms.{tentative}
-use Rattle.lay_reach.proofs.Numbers.{size-+, size-max, size-min}
+use Rattle.lay_length.proofs.SmallNumbers.{size-+, size-max, size-min}
 use Rattle.lay_preferred.specs.Fitting.{side_way, SideFits, StartFits, EndFits, AroundFits, GivenFits, ReplacedFits, leasts, mosts, LengthFits, MaximumFits, LengthsFit, room_of, room_by, room_inside, BoxFits, AreWithin}
 use Rattle.lay_preferred.specs.steps.Columns.{no_children}
 use Rattle.lay_preferred.specs.steps.Outer.{edge, start_of, end_of, edges_of, held_of, with_edges, is_given, given, around, replaced, outer}

@@ -10,7 +10,7 @@ use Rattle.layout_semantics.specs.InlineContent.{Item, start, finish, word, spac
 use Rattle.lay_line.specs.Ways.{item_way}
 use Rattle.lay_line.specs.steps.Held.{Held, nothing_held}
 use Rattle.lay_line.specs.steps.Loading.{parted_by, parts_of}
-use Rattle.lay_reach.proofs.Numbers.{size-+, size-max}
+use Rattle.lay_length.proofs.SmallNumbers.{size-+, size-max}
 use Rattle.lay_line.specs.Limits.{held_size}
 use Rattle.lay_preferred.specs.Fitting.{after_way, leasts, mosts, IsHalf, AreWithin}
 use Rattle.lay_preferred.specs.declared.columns.Column.{Column}

@@ -21,7 +21,7 @@ use Rattle.layout_semantics.proofs.Orders.{document_order-is}
 use Rattle.layout_semantics.proofs.Pages.{forest}
 use Rattle.layout_laws.specs.Nested.{items_of_sort, box_items}
 use Rattle.layout_laws.proofs.Levels.{content-by-boxes}
-use Rattle.lay_reach.proofs.Texts.{IsTextAt, text-only}
+use Rattle.lay_length.proofs.SmallTexts.{IsTextAt, text-only}
 use Rattle.lay_preferred.specs.Fitting.{LengthsFit, WordFits, WholeTextFits, room_of, room_by, room_inside, BoxFits, BoxesFit, AreWithin, AreSmallBoxes}
 use Rattle.lay_preferred.specs.steps.Outer.{outer}
 use Rattle.lay_preferred.specs.steps.Parts.{width_of}

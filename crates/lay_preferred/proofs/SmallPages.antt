@@ -30,11 +30,11 @@ use Rattle.layout_semantics.specs.Replaced.{intrinsic, by_ratio}
 use Rattle.layout_laws.proofs.TreeFacts.{slice_in}
 use Rattle.layout_laws.proofs.Reaching.{ratio_least}
 use Rattle.lay_length.specs.Ways.{size_way}
-use Rattle.lay_reach.specs.Limits.{IsSmallPage}
-use Rattle.lay_reach.proofs.Extents.{IsLowTree, IsElementOf, element-around, IsLowLength, HasLowLengths, low-tree, ext, own_low, own-is, style-of, element-box, boxed, sizes-small, used-size, way-small, by-groups, style-low}
-use Rattle.lay_reach.proofs.Fonts.{em-up}
-use Rattle.lay_reach.proofs.Numbers.{size-fraction}
-use Rattle.lay_reach.proofs.Texts.{IsTextAt, text-only, texts-low}
+use Rattle.lay_length.specs.Limits.{IsSmallPage}
+use Rattle.lay_length.proofs.SmallExtents.{IsLowTree, IsElementOf, element-around, IsLowLength, HasLowLengths, low-tree, ext, own_low, own-is, style-of, element-box, boxed, sizes-small, used-size, way-small, by-groups, style-low}
+use Rattle.lay_length.proofs.SmallFonts.{em-up}
+use Rattle.lay_length.proofs.SmallNumbers.{size-fraction}
+use Rattle.lay_length.proofs.SmallTexts.{IsTextAt, text-only, texts-low}
 use Rattle.lay_width.specs.steps.Terms.{tentative}
 use Rattle.lay_preferred.specs.Fitting.{LengthFits, SidesFit, MaximumFits, LengthsFit, WordFits, room_of, WholeTextFits, AreSmallBoxes}
 use Rattle.lay_preferred.specs.steps.Outer.{edge}

@@ -3,7 +3,7 @@ ghost use Rattle.viz_base.specs.declared.trees.BoxTree.{BoxTree};
 ghost use Rattle.viz_base.specs.declared.worlds.World.{World};
 ghost use Rattle.viz_calc.specs.World.{Reading};
 ghost use Rattle.layout_semantics.specs.Preferred.{a_replaced, inline_content, blocks, inside_of, preferred};
-ghost use Rattle.lay_reach.specs.Limits.{IsSmallPage};
+ghost use Rattle.lay_length.specs.Limits.{IsSmallPage};
 ghost use Rattle.lay_preferred.specs.Fitting.{AreSmallBoxes, BoxesFit, AreWithin};
 ghost use Rattle.lay_preferred.specs.steps.Outer.{is_given, given, around, replaced, outer};
 ghost use Rattle.lay_preferred.specs.steps.Parts.{inline_in, blocks_in};

@@ -15,8 +15,8 @@ use Rattle.layout_semantics.specs.Preferred.{preferred}
 use Rattle.layout_laws.specs.Terms.{own_maximum, own_minimum}
 use Rattle.lay_width.specs.steps.Terms.{around, room_between, below, again}
 use Rattle.lay_width.specs.Fitting.{UsedFits, EdgesFit, VerticalsFit, FixedFits, HoldFits, BlockFits, BlockFitsBy, FillingFits, GivenBlockFits, FixedBlockFits, FittedFits, ShrunkFits, sum_way, room_way}
-use Rattle.lay_reach.proofs.Extents.{IsLowTree}
-use Rattle.lay_reach.proofs.Numbers.{size-+, size--, size-floor, size-between}
+use Rattle.lay_length.proofs.SmallExtents.{IsLowTree}
+use Rattle.lay_length.proofs.SmallNumbers.{size-+, size--, size-floor, size-between}
 use Rattle.flow_limits.specs.Boxes.{AreWidthsSmall}
 use Rattle.page_limits.specs.Across.{AreWidthsBounded}
 use Rattle.page_limits.proofs.WidthsTerms.{width_in, room-plain}

@@ -22,7 +22,7 @@ use Rattle.layout_semantics.specs.Replaced.{intrinsic, by_ratio, replaced_size}
 use Rattle.layout_laws.proofs.Reaching.{ratio_least}
 use Rattle.lay_width.specs.Fitting.{UsedFits, VerticalsFit, in_block, WidthsFit, BlockFits, ReplacedFits, TentativeFits, RatioFits}
 use Rattle.lay_margin.specs.Fitting.{BoxFits, InsideFits, MarginFits, content_way}
-use Rattle.lay_reach.proofs.Numbers.{size-+, size--}
+use Rattle.lay_length.proofs.SmallNumbers.{size-+, size--}
 use Rattle.flow_limits.specs.Boxes.{AreWidthsSmall, IsWhole}
 use Rattle.flow_limits.proofs.TermsWithin.{box-small}
 use Rattle.page_limits.specs.Across.{AreWidthsBounded}

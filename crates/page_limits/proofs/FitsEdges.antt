@@ -24,8 +24,8 @@ use Rattle.layout_semantics.specs.LineHeights.{InlineContext}
 use Rattle.lay_line.specs.Fits.{EdgesFit, SideFits}
 use Rattle.lay_line.specs.LineFits.{EdgesWithin, QuadWithin}
 use Rattle.lay_line.specs.steps.Entries.{edges_in}
-use Rattle.lay_reach.proofs.Extents.{IsLowTree, IsElementOf, element-around, element-box, style-low, used-size}
-use Rattle.lay_reach.proofs.Numbers.{size-+}
+use Rattle.lay_length.proofs.SmallExtents.{IsLowTree, IsElementOf, element-around, element-box, style-low, used-size}
+use Rattle.lay_length.proofs.SmallNumbers.{size-+}
 use Rattle.page_limits.proofs.WidthsCosts.{kind-at, no-style-at}
 use Rattle.page_limits.proofs.WidthsTerms.{margins_in, paddings_in, borders_in}
 use Rattle.page_limits.proofs.FitsLengths.{IsLow, used-fits}

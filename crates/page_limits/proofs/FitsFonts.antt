@@ -23,8 +23,8 @@ use Rattle.layout_semantics.proofs.Forest.{both}
 use Rattle.layout_laws.proofs.Members.{any_in, member_place}
 use Rattle.lay_length.specs.Ways.{part_way, line_way, used_way}
 use Rattle.lay_line.specs.Fits.{InlineFits, FontFits}
-use Rattle.lay_reach.proofs.Extents.{IsLowTree, sizes-small}
-use Rattle.lay_reach.proofs.Numbers.{size-+, size--, size-floor}
+use Rattle.lay_length.proofs.SmallExtents.{IsLowTree, sizes-small}
+use Rattle.lay_length.proofs.SmallNumbers.{size-+, size--, size-floor}
 use Rattle.page_limits.proofs.HeightsFonts.{font_cost, box-cost}
 use Rattle.page_limits.proofs.InlinesFonts.{fonts-within}
 

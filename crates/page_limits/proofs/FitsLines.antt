@@ -15,8 +15,8 @@ use Rattle.lay_line.specs.Fits.{InlineFits, OwnFits, ReachFits}
 use Rattle.lay_line.specs.LineFits.{BoxFits, text_raised}
 use Rattle.lay_line.specs.Limits.{AllWithin, float_reach}
 use Rattle.lay_line.specs.steps.Words.{own_reach, raised, inline_raised, reach_in, size_in}
-use Rattle.lay_reach.proofs.Extents.{IsLowTree}
-use Rattle.lay_reach.proofs.Numbers.{size-+, size--}
+use Rattle.lay_length.proofs.SmallExtents.{IsLowTree}
+use Rattle.lay_length.proofs.SmallNumbers.{size-+, size--}
 use Rattle.page_limits.proofs.FitsFonts.{IsBoxed, font-fits, inline-fits}
 use Rattle.page_limits.proofs.FitsEdges.{margins-fit, borders-fit, paddings-fit}
 use Rattle.page_limits.proofs.FitsRaises.{IsExtentLow, at-low, inline-low, shift-fits, shift-low, inline-shift-fits, inline-shift-low, text-shift-fits, text-shift-low}

@@ -21,8 +21,8 @@ use Rattle.layout_semantics.specs.Lengths.{own_style}
 use Rattle.layout_semantics.specs.LineHeights.{InlineContext, LineExtent, height_of_extent, inline_extent, raise, shift_to}
 use Rattle.lay_line.specs.Fits.{CentredFits, InlineFits, InlineShiftFits, RaiseFits, ShiftFits, ShiftFits_to, TextShiftFits}
 use Rattle.lay_line.specs.steps.Words.{raise_in, raised, inline_raised}
-use Rattle.lay_reach.proofs.Extents.{IsLowTree, boxed}
-use Rattle.lay_reach.proofs.Numbers.{size-+, size--, size-floor, size-fraction}
+use Rattle.lay_length.proofs.SmallExtents.{IsLowTree, boxed}
+use Rattle.lay_length.proofs.SmallNumbers.{size-+, size--, size-floor, size-fraction}
 use Rattle.page_limits.proofs.HeightsFonts.{raise_cost, valign_of, box-cost}
 use Rattle.page_limits.proofs.FitsEdges.{no-box-style, node-style}
 use Rattle.page_limits.proofs.RaisesBoxes.{middle_by, inline-raise, other-raise}

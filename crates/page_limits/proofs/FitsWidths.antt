@@ -28,7 +28,7 @@ use Rattle.lay_line.specs.steps.Measured.{Measured, measured}
 use Rattle.lay_line.specs.steps.Words.{strut_in, width_in}
 use Rattle.lay_line.proofs.Growth.{items_high}
 use Rattle.lay_line.proofs.Parts.{bare-measured}
-use Rattle.lay_reach.proofs.Numbers.{size-+, size-max}
+use Rattle.lay_length.proofs.SmallNumbers.{size-+, size-max}
 use Rattle.flow_steps.proofs.InOrder.{whole_no_inline}
 use Rattle.flow_limits.specs.Boxes.{IsPartOf, IsWhole}
 use Rattle.flow_limits.specs.Bounds.{all_around, IsBandIn, IsFloatIn, IsLevelIn}

@@ -17,7 +17,7 @@ use Rattle.layout_laws.specs.Terms.{own_width, own_maximum, own_minimum}
 use Rattle.layout_laws.proofs.Reaching.{ratio_least}
 use Rattle.layout_laws.proofs.TreeFacts.{slice_in}
 use Rattle.lay_preferred.proofs.SmallPages.{up-covers, by_ratio-size}
-use Rattle.lay_reach.proofs.Extents.{IsElementOf, own-is, own_low, by-groups, style-of}
+use Rattle.lay_length.proofs.SmallExtents.{IsElementOf, own-is, own_low, by-groups, style-of}
 use Rattle.page_limits.proofs.WidthsCosts.{held-size, own-style-at, replaced-kind, lengths-far}
 use Rattle.page_limits.proofs.WidthsTerms.{IsTerm, HasTerms, far, term-cost, width_in, min_width_in, height_in, used-of, style-terms}
 use Rattle.page_limits.proofs.WidthsLevels.{IsFarPage, HasLevel, near-times, height-near, least_height-near}

@@ -26,8 +26,8 @@ use Rattle.layout_semantics.proofs.Forest.{both}
 use Rattle.layout_laws.proofs.FontSizes.{font-of-style}
 use Rattle.layout_laws.proofs.Reaching.{ratio_least}
 use Rattle.layout_laws.proofs.TreeFacts.{slice_in}
-use Rattle.lay_reach.proofs.Extents.{IsLowTree, IsElementOf, element-around, own-is, own_low, style-of, element-box}
-use Rattle.lay_reach.proofs.Fonts.{IsUpTo, fraction-up, size-up}
+use Rattle.lay_length.proofs.SmallExtents.{IsLowTree, IsElementOf, element-around, own-is, own_low, style-of, element-box}
+use Rattle.lay_length.proofs.SmallFonts.{IsUpTo, fraction-up, size-up}
 
 -- ---- the measures of a font grow with the default size
 

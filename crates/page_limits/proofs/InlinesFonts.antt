@@ -16,10 +16,10 @@ use Rattle.layout_semantics.specs.Fonts.{font_size, line_height, ascent, descent
 use Rattle.layout_semantics.specs.InlineContent.{text_of}
 use Rattle.layout_semantics.specs.LineHeights.{inline_extent}
 use Rattle.layout_laws.proofs.TreeFacts.{slice_in}
-use Rattle.lay_reach.proofs.Extents.{IsLowTree, text_low}
-use Rattle.lay_reach.proofs.Fonts.{IsUpTo, size-up, font-up}
-use Rattle.lay_reach.proofs.Numbers.{size-+, size--, size-floor}
-use Rattle.lay_reach.proofs.Texts.{wide-up, measured-is, wide, wide-more}
+use Rattle.lay_length.proofs.SmallExtents.{IsLowTree, text_low}
+use Rattle.lay_length.proofs.SmallFonts.{IsUpTo, size-up, font-up}
+use Rattle.lay_length.proofs.SmallNumbers.{size-+, size--, size-floor}
+use Rattle.lay_length.proofs.SmallTexts.{wide-up, measured-is, wide, wide-more}
 use Rattle.page_limits.proofs.HeightsFonts.{line-up, measure-up, font_cost, box-cost}
 
 -- a measure that grows is at most that at the greatest size

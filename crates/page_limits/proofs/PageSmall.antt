@@ -7,7 +7,7 @@ use Rattle.viz_base.specs.declared.trees.BoxTree.{BoxTree}
 use Rattle.viz_base.specs.declared.worlds.World.{World}
 use Rattle.layout_semantics.specs.Order.{IsOnPage}
 use Rattle.layout_semantics.specs.Page.{page_rendering}
-use Rattle.lay_reach.specs.Limits.{IsSmallPage}
+use Rattle.lay_length.specs.Limits.{IsSmallPage}
 use Rattle.flow_steps.proofs.InOrder.{root-whole}
 use Rattle.flow_limits.specs.Bounds.{IsPlacedIn, all_around}
 use Rattle.flow_limits.specs.Boxes.{ArePropertiesSmall, IsInlineBoxSmall, IsWhole}

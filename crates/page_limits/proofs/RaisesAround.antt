@@ -16,7 +16,7 @@ use Rattle.layout_semantics.specs.LineHeights.{InlineContext, LineExtent, inline
 use Rattle.layout_semantics.specs.Order.{IsOnPage}
 use Rattle.layout_semantics.proofs.Pages.{within-page}
 use Rattle.layout_laws.proofs.Upward.{HasParent, parent-of}
-use Rattle.lay_reach.proofs.Extents.{IsLowTree}
+use Rattle.lay_length.proofs.SmallExtents.{IsLowTree}
 use Rattle.page_limits.proofs.HeightsFonts.{valign_of, own-cost, box-cost}
 use Rattle.page_limits.proofs.RaisesBoxes.{size_cost, own_cost, middle_by, inline-raise, other-raise}
 use Rattle.page_limits.proofs.RaisesSums.{first_sum, first_sum-next, first_sum-rises, first_sum-all}

@@ -18,9 +18,9 @@ use Rattle.layout_semantics.specs.Blocks.{node_of}
 use Rattle.layout_semantics.specs.Fonts.{font_size, line_height, ascent, descent}
 use Rattle.layout_semantics.specs.Lengths.{used}
 use Rattle.layout_semantics.specs.LineHeights.{InlineContext, LineExtent, height_of_extent, inline_extent, raise}
-use Rattle.lay_reach.proofs.Extents.{IsLowTree}
-use Rattle.lay_reach.proofs.Fonts.{IsUpTo, size-up, em-up}
-use Rattle.lay_reach.proofs.Numbers.{fraction-grows}
+use Rattle.lay_length.proofs.SmallExtents.{IsLowTree}
+use Rattle.lay_length.proofs.SmallFonts.{IsUpTo, size-up, em-up}
+use Rattle.lay_length.proofs.SmallNumbers.{fraction-grows}
 use Rattle.page_limits.proofs.HeightsFonts.{line-up, measure-up, raise_cost, valign_of}
 
 -- ---- by how much one box is raised

@@ -24,9 +24,9 @@ use Rattle.layout_semantics.specs.Preferred.{absolute_part, outer_width}
 use Rattle.layout_semantics.specs.Replaced.{intrinsic, by_ratio, preferred_replaced}
 use Rattle.layout_laws.proofs.Reaching.{ratio_least}
 use Rattle.lay_preferred.proofs.SmallPages.{by_ratio-size}
-use Rattle.lay_reach.proofs.Extents.{IsLowTree, IsElementOf, ext, own-is, style-of, by-groups}
-use Rattle.lay_reach.proofs.Fonts.{em-up}
-use Rattle.lay_reach.proofs.Numbers.{size-max, size-between, held-from, held-to}
+use Rattle.lay_length.proofs.SmallExtents.{IsLowTree, IsElementOf, ext, own-is, style-of, by-groups}
+use Rattle.lay_length.proofs.SmallFonts.{em-up}
+use Rattle.lay_length.proofs.SmallNumbers.{size-max, size-between, held-from, held-to}
 use Rattle.page_limits.proofs.WidthsLists.{costs, costs-both}
 use Rattle.page_limits.proofs.WidthsTexts.{costs-sum, text-cost}
 use Rattle.page_limits.proofs.WidthsOrder.{rank, rank-of-list}

@@ -30,7 +30,7 @@ use Rattle.layout_laws.proofs.Reaching.{ratio_least, reach_around}
 use Rattle.layout_laws.proofs.Rooms.{room-by-parent}
 use Rattle.layout_laws.proofs.Upward.{container-by-parent, definite-by-container}
 use Rattle.lay_preferred.proofs.SmallPages.{up-covers}
-use Rattle.lay_reach.proofs.Extents.{IsLowTree, IsElementOf, style-of}
+use Rattle.lay_length.proofs.SmallExtents.{IsLowTree, IsElementOf, style-of}
 use Rattle.page_limits.proofs.WidthsOrder.{order-cost}
 use Rattle.page_limits.proofs.WidthsInside.{preferred-within}
 use Rattle.page_limits.proofs.WidthsCosts.{own-style-at, no-style-at, kind-at, lengths-far, cost_at, are-costed, all-cost}

@@ -19,8 +19,8 @@ use Rattle.layout_semantics.specs.Order.{IsOnPage}
 use Rattle.layout_semantics.specs.Verticals.{verticals}
 use Rattle.layout_semantics.proofs.Forest.{both}
 use Rattle.layout_laws.proofs.Reaching.{reach_bounded}
-use Rattle.lay_reach.specs.Limits.{IsSmallPage}
-use Rattle.lay_reach.proofs.Extents.{low-tree}
+use Rattle.lay_length.specs.Limits.{IsSmallPage}
+use Rattle.lay_length.proofs.SmallExtents.{low-tree}
 use Rattle.flow_limits.specs.Boxes.{IsWhole}
 use Rattle.page_limits.specs.Across.{AreWidthsBounded, AreEdgesSmall}
 use Rattle.page_limits.proofs.WidthsLevels.{all_extents, IsFarPage}

@@ -20,8 +20,8 @@ use Rattle.layout_semantics.specs.Lengths.{used, used_unless_auto, maximum, own_
 use Rattle.layout_semantics.specs.Preferred.{preferred}
 use Rattle.layout_laws.specs.Terms.{own_width, own_maximum, own_minimum}
 use Rattle.layout_laws.proofs.HorizontalTerms.{block-held, shrunk-held}
-use Rattle.lay_reach.proofs.Extents.{IsLowTree, IsElementOf, ext, used-size, by-groups, lengths-low}
-use Rattle.lay_reach.proofs.Numbers.{size-+, size--, size-max, size-min}
+use Rattle.lay_length.proofs.SmallExtents.{IsLowTree, IsElementOf, ext, used-size, by-groups, lengths-low}
+use Rattle.lay_length.proofs.SmallNumbers.{size-+, size--, size-max, size-min}
 use Rattle.page_limits.proofs.WidthsCosts.{held-size}
 
 -- ---- one level of a page

@@ -15,8 +15,8 @@ use Rattle.viz_base.specs.declared.worlds.World.{World}
 use Rattle.layout_semantics.specs.Blocks.{node_of}
 use Rattle.layout_semantics.specs.Fonts.{text_width}
 use Rattle.layout_semantics.specs.InlineContent.{Item, word, space, text_of, text_items, letter_before, character_before}
-use Rattle.lay_reach.proofs.Fonts.{size-up}
-use Rattle.lay_reach.proofs.Texts.{IsTextAt, text-only, wide-more, wide-up}
+use Rattle.lay_length.proofs.SmallFonts.{size-up}
+use Rattle.lay_length.proofs.SmallTexts.{IsTextAt, text-only, wide-more, wide-up}
 use Rattle.page_limits.proofs.WidthsLists.{costs}
 
 pub costs-sum : {A : Type 0} (cost : A → ℕ) (xs : List A) → sum (map cost xs) ≡ costs cost xs

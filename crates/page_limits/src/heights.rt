@@ -1,7 +1,7 @@
 ghost use Rattle.std.specs.Prelude.{◌≤◌, ◌^◌, ℕ, length, chars, sum_by};
 ghost use Rattle.viz_base.specs.declared.trees.BoxNode.{BoxNode};
 ghost use Rattle.layout_semantics.specs.Order.{IsOnPage};
-ghost use Rattle.lay_reach.specs.Limits.{IsSmallPage};
+ghost use Rattle.lay_length.specs.Limits.{IsSmallPage};
 ghost use Rattle.flow_limits.specs.Boxes.{IsWhole};
 ghost use Rattle.flow_limits.specs.Raises.{AreRaisesSmall};
 ghost use Rattle.page_limits.specs.Tall.{AreHeightsBounded, AreFontsBounded};

@@ -8,7 +8,7 @@ use Rattle.lay_line.specs.Limits.{held_size}
 use Rattle.lay_preferred.specs.Fitting.{mosts, IsHalf}
 use Rattle.lay_preferred.specs.Readings.{sizes_at}
 use Rattle.lay_preferred.specs.steps.Parts.{held_most, floats_from}
-use Rattle.lay_reach.proofs.Numbers.{size-+}
+use Rattle.lay_length.proofs.SmallNumbers.{size-+}
 use Rattle.lay_preferred.proofs.Sizes.{most-reach}
 use Rattle.lay_preferred.specs.steps.Parts.{most_width}
 use Rattle.lay_preferred.proofs.parts.most_width.Goals as goal

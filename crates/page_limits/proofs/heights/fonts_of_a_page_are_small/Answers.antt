@@ -1,4 +1,4 @@
-use Rattle.lay_reach.proofs.Extents.{low-tree}
+use Rattle.lay_length.proofs.SmallExtents.{low-tree}
 use Rattle.page_limits.proofs.HeightsSmall.{fonts-bounded}
 use Rattle.page_limits.proofs.heights.fonts_of_a_page_are_small.Goals as goal
 

@@ -1,4 +1,4 @@
-use Rattle.lay_reach.proofs.Extents.{low-tree}
+use Rattle.lay_length.proofs.SmallExtents.{low-tree}
 use Rattle.page_limits.proofs.HeightsSmall.{raises-small}
 use Rattle.page_limits.proofs.heights.raises_of_a_page_are_small.Goals as goal
 

@@ -2,7 +2,7 @@ ghost use Rattle.std.specs.Prelude.{◌≤◌, ◌^◌, ℕ, unsigned_abs, IsTru
 ghost use Rattle.viz_base.specs.Trees.{has_box};
 ghost use Rattle.viz_base.specs.declared.worlds.World.{World};
 ghost use Rattle.layout_semantics.specs.Fonts.{font_size};
-ghost use Rattle.lay_reach.specs.Limits.{IsSmallPage};
+ghost use Rattle.lay_length.specs.Limits.{IsSmallPage};
 
 use viz_base::BoxTree;
 

@@ -17,9 +17,9 @@ use Rattle.layout_semantics.specs.Blocks.{node_of}
 use Rattle.layout_semantics.specs.Fonts.{text_width}
 use Rattle.layout_semantics.specs.InlineContent.{Item, word, space, text_of, text_items, letter_before, character_before}
 use Rattle.layout_laws.proofs.TreeFacts.{slice_in}
-use Rattle.lay_reach.proofs.Numbers.{div-rises}
-use Rattle.lay_reach.proofs.Fonts.{size-up}
-use Rattle.lay_reach.proofs.Extents.{IsLowTree, text_low}
+use Rattle.lay_length.proofs.SmallNumbers.{div-rises}
+use Rattle.lay_length.proofs.SmallFonts.{size-up}
+use Rattle.lay_length.proofs.SmallExtents.{IsLowTree, text_low}
 use lib.IntN.{pos-*ℤ-pos}
 
 -- ---- texts in one font

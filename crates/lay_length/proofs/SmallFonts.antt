@@ -8,7 +8,7 @@ use Rattle.viz_base.specs.declared.lengths.Size.TheVariants as of_size
 use Rattle.viz_base.specs.declared.styles.Style.{Style}
 use Rattle.viz_base.specs.FontSizes.{fraction, default_size, computed_size, parent_in, font_size_to, font_size_in, em_in}
 use Rattle.layout_semantics.proofs.Forest.{both}
-use Rattle.lay_reach.proofs.Numbers.{div-rises, fraction-grows}
+use Rattle.lay_length.proofs.SmallNumbers.{div-rises, fraction-grows}
 use lib.IntN.{pos-*ℤ-pos}
 
 -- from 0 to a number

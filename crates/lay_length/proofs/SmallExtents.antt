@@ -29,9 +29,9 @@ use Rattle.layout_laws.proofs.TreeFacts.{slice_in}
 use Rattle.layout_laws.proofs.Reaching.{ratio_least, total_bounded}
 use Rattle.layout_laws.proofs.FontSizes.{font-of-style}
 use Rattle.lay_length.specs.Ways.{size_way_to, used_way}
-use Rattle.lay_reach.specs.Limits.{IsSmallPage}
-use Rattle.lay_reach.proofs.Numbers.{size-fraction}
-use Rattle.lay_reach.proofs.Fonts.{font-up, em-up}
+use Rattle.lay_length.specs.Limits.{IsSmallPage}
+use Rattle.lay_length.proofs.SmallNumbers.{size-fraction}
+use Rattle.lay_length.proofs.SmallFonts.{font-up, em-up}
 
 -- a page all extents of which together are at most 2^40 units
 pub record IsLowTree (tree : BoxTree) : Type 0 where

@@ -1,4 +1,0 @@
-pub mod Numbers
-pub mod Fonts
-pub mod Extents
-pub mod Texts
