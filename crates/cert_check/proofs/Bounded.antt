@@ -9,7 +9,7 @@ use Rattle.viz_base.specs.declared.jobs.Job.{Job}
 use Rattle.viz_base.specs.declared.renderings.Placed.{Placed}
 use Rattle.viz_base.specs.declared.renderings.Quad.{Quad}
 use Rattle.viz_base.specs.declared.renderings.Rendering.{Rendering}
-use Rattle.flow_limits.specs.Bounds.{IsPlacedIn, IsQuadIn, all_around}
+use Rattle.page_limits.specs.Bounds.{IsPlacedIn, IsQuadIn, all_around}
 use Rattle.logic_semantics.specs.Ranges.{IsInRange}
 use Rattle.vis_truth.specs.Scenes.{IsNarrow, IsBoundedQuad, IsBoundedBox, IsBoundedRendering}
 

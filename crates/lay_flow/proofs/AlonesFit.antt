@@ -8,13 +8,13 @@ use Rattle.layout_semantics.specs.FlowBoxes.{is_replaced_at, flow_children, cont
 use Rattle.layout_semantics.specs.Rectangles.{Frame, content_top}
 use Rattle.flow_steps.specs.Flow.{corner_frame, fresh}
 use Rattle.flow_steps.proofs.Sound.{IsSound}
-use Rattle.flow_limits.specs.Bounds.{Bounds, AreInside, all_around, grown, IsBandIn, IsLevelIn, IsQuadIn}
-use Rattle.flow_limits.specs.Boxes.{AreSidesSmall, AreWidthsSmall, IsAloneIn, IsWhole}
-use Rattle.flow_limits.specs.Loads.{greatest_length}
-use Rattle.flow_limits.specs.Rises.{content_rise}
-use Rattle.flow_limits.proofs.BoxesWithin.{top-in, none-low}
-use Rattle.flow_limits.proofs.FlowWithin.{IsContextIn}
-use Rattle.flow_limits.proofs.Levels.{inside-more, level-wider, quad-wider}
+use Rattle.page_limits.specs.Bounds.{Bounds, AreInside, all_around, grown, IsBandIn, IsLevelIn, IsQuadIn}
+use Rattle.page_limits.specs.Boxes.{AreSidesSmall, AreWidthsSmall, IsAloneIn, IsWhole}
+use Rattle.page_limits.specs.Loads.{greatest_length}
+use Rattle.page_limits.specs.Rises.{content_rise}
+use Rattle.page_limits.proofs.BoxesWithin.{top-in, none-low}
+use Rattle.page_limits.proofs.FlowWithin.{IsContextIn}
+use Rattle.page_limits.proofs.Levels.{inside-more, level-wider, quad-wider}
 use Rattle.lay_flow.specs.AloneFits.{AloneFits, own_end}
 use Rattle.lay_flow.specs.Fits.{near}
 use Rattle.lay_flow.specs.Low.{IsContextLow, IsFrameLow}

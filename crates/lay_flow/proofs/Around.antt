@@ -7,7 +7,7 @@ use Rattle.layout_semantics.specs.FlowBoxes.{across}
 use Rattle.layout_semantics.specs.Rectangles.{Frame}
 use Rattle.lay_margin.specs.Fitting.{content_way}
 use Rattle.lay_frame.specs.Fitting.{KeptFits}
-use Rattle.flow_limits.specs.Boxes.{AreWidthsSmall}
+use Rattle.page_limits.specs.Boxes.{AreWidthsSmall}
 use Rattle.lay_flow.specs.Low.{IsAsideLow, IsBandLow, IsFrameLow}
 use Rattle.lay_flow.proofs.Framed.{place-fits}
 use Rattle.lay_flow.proofs.Sizes.{wider, fit, plus, less, zero-small, zero-fits}

@@ -12,8 +12,8 @@ use Rattle.layout_semantics.specs.Horizontal.{widths}
 use Rattle.layout_semantics.specs.Order.{IsOnPage}
 use Rattle.layout_semantics.specs.Verticals.{verticals}
 use Rattle.lay_margin.specs.Fitting.{BoxFits}
-use Rattle.flow_limits.specs.Boxes.{IsBoxSmall, IsHeightHeld, IsWhole}
-use Rattle.flow_limits.proofs.TermsWithin.{box-small}
+use Rattle.page_limits.specs.Boxes.{IsBoxSmall, IsHeightHeld, IsWhole}
+use Rattle.page_limits.proofs.TermsWithin.{box-small}
 use Rattle.page_limits.proofs.WidthsLevels.{IsFarPage}
 use Rattle.page_limits.proofs.PageSmall.{properties-small}
 use Rattle.page_limits.proofs.FitsHeights.{given-fits, held-fits}

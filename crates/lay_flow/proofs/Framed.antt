@@ -14,10 +14,10 @@ use Rattle.layout_semantics.specs.Rectangles.{Frame, content_top, border_width, 
 use Rattle.lay_margin.specs.declared.runs.Run.{Run}
 use Rattle.lay_margin.specs.Runs.{collapse}
 use Rattle.lay_frame.specs.Fitting.{top_way, BorderFits, AroundFits, PlaceFits, border_of}
-use Rattle.flow_limits.proofs.Levels.{All-map}
-use Rattle.flow_limits.specs.Bounds.{IsQuadIn, IsFloatIn}
-use Rattle.flow_limits.specs.Boxes.{IsHeightHeld}
-use Rattle.flow_limits.specs.Inline.{IsSmall}
+use Rattle.page_limits.proofs.Levels.{All-map}
+use Rattle.page_limits.specs.Bounds.{IsQuadIn, IsFloatIn}
+use Rattle.page_limits.specs.Boxes.{IsHeightHeld}
+use Rattle.page_limits.specs.Inline.{IsSmall}
 use Rattle.flow_steps.specs.Flow.{Standing, at_top, below, Context, next_edge, block_height}
 use Rattle.lay_flow.specs.Low.{reach, IsLevelLow, IsRunLow, IsStandingLow, IsContextLow, IsFrameLow}
 use Rattle.lay_flow.specs.Fits.{IsNear, IsHeightFit, near}

@@ -18,7 +18,7 @@ use Rattle.lay_margin.specs.steps.Leads.{Going, going_on, kid_of, through, enter
 use Rattle.lay_margin.proofs.Fitted.{kids-fit}
 use Rattle.flow_steps.specs.Runs.{edge_at}
 use Rattle.flow_steps.proofs.LeadCases.{kid-float, kid-flow, kids_lead, lead-stops, lead-solid, lead-inside}
-use Rattle.flow_limits.specs.Bounds.{all_around, IsLevelIn}
+use Rattle.page_limits.specs.Bounds.{all_around, IsLevelIn}
 use Rattle.lay_flow.specs.Low.{IsLevelLow, IsAsideLow, IsRunLow, IsBaseLow}
 use Rattle.lay_flow.specs.WayFits.{IsLeadLow, AreKidsLow}
 

@@ -18,8 +18,8 @@ use Rattle.layout_semantics.specs.Lists.{table_of, room_for}
 use Rattle.layout_semantics.specs.Order.{IsOnPage}
 use Rattle.lay_line.specs.LinesFit.{LinesFit}
 use Rattle.flow_steps.specs.Flow.{Context}
-use Rattle.flow_limits.specs.Bounds.{all_around, IsBandIn, IsFloatIn, IsLevelIn}
-use Rattle.flow_limits.specs.Boxes.{IsAloneIn, IsWhole}
+use Rattle.page_limits.specs.Bounds.{all_around, IsBandIn, IsFloatIn, IsLevelIn}
+use Rattle.page_limits.specs.Boxes.{IsAloneIn, IsWhole}
 use Rattle.page_limits.proofs.WidthsLevels.{IsFarPage}
 use Rattle.page_limits.proofs.FitsFonts.{IsBoxed}
 use Rattle.page_limits.proofs.FitsLines.{IsInnerLow}

@@ -9,8 +9,8 @@ use Rattle.layout_semantics.specs.Flow.{Alone}
 use Rattle.layout_semantics.proofs.Pages.{all-on-page, within-page}
 use Rattle.flow_steps.specs.Tables.{laid_at, outside_of}
 use Rattle.flow_steps.proofs.InOrder.{root_no_inline}
-use Rattle.flow_limits.proofs.PageWithin.{IsApart, outside-good}
-use Rattle.flow_limits.proofs.WholePage.{root-room}
+use Rattle.page_limits.proofs.PageWithin.{IsApart, outside-good}
+use Rattle.page_limits.proofs.WholePage.{root-room}
 use Rattle.lay_flow.specs.AloneFits.{AloneFits, BoxAddedFits, BoxesAddedFit, ContainerFits, PageComesFit}
 use Rattle.lay_flow.proofs.PageFits.{IsPageFit}
 use Rattle.lay_flow.specs.steps.Flow.{with_box, with_boxes, with_container, table_to}

@@ -14,9 +14,9 @@ use Rattle.layout_semantics.specs.InlineContent.{has_line}
 use Rattle.layout_semantics.specs.Order.{IsOnPage}
 use Rattle.lay_line.specs.LinesFit.{LinesFit}
 use Rattle.lay_margin.specs.Fitting.{BoxFits}
-use Rattle.flow_limits.specs.Bounds.{IsBandIn, IsFloatIn, IsLevelIn, all_around}
-use Rattle.flow_limits.specs.Boxes.{ArePropertiesSmall, IsAloneIn, IsInlineBoxSmall, IsWhole}
-use Rattle.flow_limits.specs.Raises.{AreRaisesSmall}
+use Rattle.page_limits.specs.Bounds.{IsBandIn, IsFloatIn, IsLevelIn, all_around}
+use Rattle.page_limits.specs.Boxes.{ArePropertiesSmall, IsAloneIn, IsInlineBoxSmall, IsWhole}
+use Rattle.page_limits.specs.Raises.{AreRaisesSmall}
 use Rattle.flow_steps.specs.Flow.{Context}
 use Rattle.lay_flow.specs.Fits.{IsHeightFit, IsReplacedFit, IsShapeFit}
 use Rattle.lay_flow.specs.Low.{IsBandLow}

@@ -21,16 +21,16 @@ use Rattle.lay_margin.specs.Runs.{no_run, collapse}
 use Rattle.flow_steps.specs.Flow.{Standing, at_top, below, Context, Met, met, ground_of, size_in}
 use Rattle.flow_steps.specs.Forward.{End, Found, goes_on, solid, cleared, cleared_of, forward}
 use Rattle.flow_steps.proofs.Sound.{IsFlowKid}
-use Rattle.flow_limits.specs.Bounds.{Bounds, AreInside, grown, all_around, IsLevelIn, IsBandIn, IsFloatIn}
-use Rattle.flow_limits.specs.Boxes.{IsWhole, IsBoxSmall, IsAloneIn}
-use Rattle.flow_limits.proofs.Levels.{inside-grown}
-use Rattle.flow_limits.proofs.FloatsMet.{floats-wider, band-wider}
-use Rattle.flow_limits.proofs.LinesWithin.{levels-wider}
-use Rattle.flow_limits.proofs.Ahead.{IsPending, rise, ahead, ahead-level, match-pending}
-use Rattle.flow_limits.proofs.WaysWithin as within
-use Rattle.flow_limits.proofs.WaysWithin.{IsBaseIn, IsSizeIn, IsBoxFound, IsBoxEndIn, way-in}
-use Rattle.flow_limits.proofs.BoxesWithin.{none-low}
-use Rattle.flow_limits.proofs.FlowWithin.{IsContextIn, IsStandingIn}
+use Rattle.page_limits.specs.Bounds.{Bounds, AreInside, grown, all_around, IsLevelIn, IsBandIn, IsFloatIn}
+use Rattle.page_limits.specs.Boxes.{IsWhole, IsBoxSmall, IsAloneIn}
+use Rattle.page_limits.proofs.Levels.{inside-grown}
+use Rattle.page_limits.proofs.FloatsMet.{floats-wider, band-wider}
+use Rattle.page_limits.proofs.LinesWithin.{levels-wider}
+use Rattle.page_limits.proofs.Ahead.{IsPending, rise, ahead, ahead-level, match-pending}
+use Rattle.page_limits.proofs.WaysWithin as within
+use Rattle.page_limits.proofs.WaysWithin.{IsBaseIn, IsSizeIn, IsBoxFound, IsBoxEndIn, way-in}
+use Rattle.page_limits.proofs.BoxesWithin.{none-low}
+use Rattle.page_limits.proofs.FlowWithin.{IsContextIn, IsStandingIn}
 use Rattle.lay_flow.specs.Low.{IsBandLow, IsClearedLow, IsRunLow, IsStandingLow}
 use Rattle.lay_flow.specs.WayFits.{ForwardFits, FromFits, StandingFits, ReachFits}
 use Rattle.lay_flow.specs.steps.Flow.{reached_from, reached_of}

@@ -4,9 +4,9 @@ use Rattle.std.proofs.lemmas.Int.{ints, clamps}
 use Rattle.std.specs.Int.{int_max}
 use Rattle.viz_base.specs.declared.renderings.Quad.{Quad}
 use Rattle.viz_calc.specs.State.{AllSmall}
-use Rattle.flow_limits.specs.Bounds.{all_around, IsLevelIn, IsQuadIn}
-use Rattle.flow_limits.specs.Boxes.{IsHeightHeld}
-use Rattle.flow_limits.specs.Inline.{IsSmall}
+use Rattle.page_limits.specs.Bounds.{all_around, IsLevelIn, IsQuadIn}
+use Rattle.page_limits.specs.Boxes.{IsHeightHeld}
+use Rattle.page_limits.specs.Inline.{IsSmall}
 use Rattle.lay_margin.specs.declared.runs.Run.{Run}
 use Rattle.lay_margin.specs.Fitting.{ends}
 use Rattle.lay_margin.specs.Runs.{collapse, value_way}

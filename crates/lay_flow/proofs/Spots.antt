@@ -21,10 +21,10 @@ use Rattle.lay_float.specs.Limits.{IsHalf, AllHalf, AreHalf}
 use Rattle.lay_float.specs.Readings.{option_at}
 use Rattle.lay_float.specs.steps.Lent.{lent_at}
 use Rattle.lay_frame.specs.Fitting.{quad_way}
-use Rattle.flow_limits.proofs.FloatSpots.{spot-in}
-use Rattle.flow_limits.proofs.Levels.{quad-wider, level-wider, level-max}
-use Rattle.flow_limits.specs.Bounds.{Bounds, levels_of, AreInside, IsLevelIn, IsQuadIn, IsFloatIn, IsExtentIn}
-use Rattle.flow_limits.specs.Inline.{IsSmall}
+use Rattle.page_limits.proofs.FloatSpots.{spot-in}
+use Rattle.page_limits.proofs.Levels.{quad-wider, level-wider, level-max}
+use Rattle.page_limits.specs.Bounds.{Bounds, levels_of, AreInside, IsLevelIn, IsQuadIn, IsFloatIn, IsExtentIn}
+use Rattle.page_limits.specs.Inline.{IsSmall}
 use Rattle.flow_steps.specs.Flow.{line_tops}
 use Rattle.lay_flow.specs.Low.{reach, IsLevelLow, AreLevelsLow, IsBandLow}
 use Rattle.lay_flow.specs.Fits.{IsNear, IsSpotNear, IsEntryLow}

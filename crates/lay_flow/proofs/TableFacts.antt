@@ -13,7 +13,7 @@ use Rattle.layout_laws.proofs.Levels.{IsFrom, All-implied, inner_boxes-from}
 use Rattle.layout_laws.proofs.LeadLevels.{children-from}
 use Rattle.lay_frame.specs.Readings.{boxes_at}
 use Rattle.flow_steps.specs.Tables.{laid_at, outside_of, page_boxes}
-use Rattle.flow_limits.proofs.Levels.{All-filter}
+use Rattle.page_limits.proofs.Levels.{All-filter}
 use Rattle.lay_flow.specs.declared.parts.Alone.{Alone as AloneBox}
 use Rattle.lay_flow.specs.Readings.{alone_at, apart_at, table_at}
 use Rattle.lay_flow.specs.steps.Flow.{alone_of, with_box, with_container, table_to}

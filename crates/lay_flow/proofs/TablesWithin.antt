@@ -14,17 +14,17 @@ use Rattle.layout_semantics.specs.Order.{IsOnPage}
 use Rattle.flow_steps.specs.Tables.{laid_at, nothing_alone}
 use Rattle.flow_steps.proofs.InOrder.{box_before}
 use Rattle.flow_steps.proofs.Sound.{IsSound}
-use Rattle.flow_limits.specs.Bounds.{Bounds, AreInside, all_around, no_bounds}
-use Rattle.flow_limits.specs.Boxes.{IsAloneIn, IsBoxSmall, IsWhole}
-use Rattle.flow_limits.specs.Inline.{IsContentSmall}
-use Rattle.flow_limits.specs.Loads.{greatest_length, unit, load, size_of}
-use Rattle.flow_limits.proofs.AloneWithin.{alone_rise, alone-within}
-use Rattle.flow_limits.proofs.ContentWithin.{line_context}
-use Rattle.flow_limits.proofs.InlineWithin.{content-small}
-use Rattle.flow_limits.proofs.Loads.{IsFew, alone-few, load-is, load-rank}
-use Rattle.flow_limits.proofs.PageWithin.{base_of, turned_of}
-use Rattle.flow_limits.proofs.TermsWithin.{box-small}
-use Rattle.flow_limits.proofs.WholePage.{few}
+use Rattle.page_limits.specs.Bounds.{Bounds, AreInside, all_around, no_bounds}
+use Rattle.page_limits.specs.Boxes.{IsAloneIn, IsBoxSmall, IsWhole}
+use Rattle.page_limits.specs.Inline.{IsContentSmall}
+use Rattle.page_limits.specs.Loads.{greatest_length, unit, load, size_of}
+use Rattle.page_limits.proofs.AloneWithin.{alone_rise, alone-within}
+use Rattle.page_limits.proofs.ContentWithin.{line_context}
+use Rattle.page_limits.proofs.InlineWithin.{content-small}
+use Rattle.page_limits.proofs.Loads.{IsFew, alone-few, load-is, load-rank}
+use Rattle.page_limits.proofs.PageWithin.{base_of, turned_of}
+use Rattle.page_limits.proofs.TermsWithin.{box-small}
+use Rattle.page_limits.proofs.WholePage.{few}
 use Rattle.lay_flow.proofs.PageFits.{IsPageFit}
 use Rattle.lay_flow.specs.steps.Flow.{alone_of, with_box}
 use Rattle.lay_flow.proofs.TableSteps.{alone-same}

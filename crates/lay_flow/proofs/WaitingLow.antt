@@ -19,10 +19,10 @@ use Rattle.lay_margin.specs.declared.runs.Run.{Run}
 use Rattle.lay_margin.specs.steps.Leads.{lead_of}
 use Rattle.flow_steps.specs.Forward.{hypothetical_edge}
 use Rattle.flow_steps.specs.Runs.{edge_at}
-use Rattle.flow_limits.specs.Bounds.{AreInside, all_around, levels_of, IsLevelIn, IsBandIn, IsExtentIn, IsFloatIn, IsQuadIn}
-use Rattle.flow_limits.proofs.FloatSpots.{with-float}
-use Rattle.flow_limits.proofs.FloatsMet.{floats-wider, band-wider}
-use Rattle.flow_limits.proofs.LinesWithin.{levels-wider}
+use Rattle.page_limits.specs.Bounds.{AreInside, all_around, levels_of, IsLevelIn, IsBandIn, IsExtentIn, IsFloatIn, IsQuadIn}
+use Rattle.page_limits.proofs.FloatSpots.{with-float}
+use Rattle.page_limits.proofs.FloatsMet.{floats-wider, band-wider}
+use Rattle.page_limits.proofs.LinesWithin.{levels-wider}
 use Rattle.lay_flow.specs.Low.{reach, IsWaitingLow}
 use Rattle.lay_flow.specs.WayFits.{WaitingFits, IsGroundLow, IsGoingLow, IsDecisionLow}
 use Rattle.lay_flow.proofs.LeadsLow.{edge-near, lead-low}

@@ -10,11 +10,11 @@ use Rattle.layout_semantics.specs.FlowBoxes.{flow_children}
 use Rattle.layout_semantics.specs.InlineContent.{has_line, is_floated_at}
 use Rattle.layout_semantics.specs.Verticals.{Verticals}
 use Rattle.flow_steps.specs.Flow.{Context, Met, Standing, Step, at_top, below}
-use Rattle.flow_limits.specs.Bounds.{Bounds, AreInside, all_around}
-use Rattle.flow_limits.specs.Boxes.{AreSidesSmall, AreWidthsSmall, IsAloneIn}
-use Rattle.flow_limits.proofs.BoxesWithin.{boxes-wider}
-use Rattle.flow_limits.proofs.Levels.{level-wider}
-use Rattle.flow_limits.proofs.LinesWithin.{levels-wider}
+use Rattle.page_limits.specs.Bounds.{Bounds, AreInside, all_around}
+use Rattle.page_limits.specs.Boxes.{AreSidesSmall, AreWidthsSmall, IsAloneIn}
+use Rattle.page_limits.proofs.BoxesWithin.{boxes-wider}
+use Rattle.page_limits.proofs.Levels.{level-wider}
+use Rattle.page_limits.proofs.LinesWithin.{levels-wider}
 use Rattle.lay_flow.specs.Low.{reach, IsAloneLow, IsClearedLow}
 use Rattle.lay_flow.specs.steps.Flow.{Ending, child_of, children_of, content_by, content_of, float_of, in_flow, in_lines, standing_after}
 use Rattle.lay_flow.proofs.Same.{content-named}

@@ -23,19 +23,19 @@ use Rattle.lay_margin.specs.Fitting.{BoxFits}
 use Rattle.flow_steps.specs.Flow as flow
 use Rattle.flow_steps.specs.Flow.{Context, Met, Step, content_of, fresh, met, Standing, at_top, below}
 use Rattle.flow_steps.proofs.Sound.{IsFlowKid, IsSound}
-use Rattle.flow_limits.specs.Bounds.{Bounds, AreInside, grown, all_around, IsBandIn, IsLevelIn}
-use Rattle.flow_limits.specs.Boxes.{IsAloneIn, IsBoxSmall, IsWhole}
-use Rattle.flow_limits.specs.Inline.{AreLinesIn, IsContentSmall, IsEntryIn}
-use Rattle.flow_limits.specs.Rises.{content_rise}
-use Rattle.flow_limits.proofs.Ahead.{rise}
-use Rattle.flow_limits.proofs.BoxesWithin.{box-wider}
-use Rattle.flow_limits.proofs.ContentWithin.{first-least, line_context}
-use Rattle.flow_limits.proofs.FloatsMet.{band-wider, floats-wider}
-use Rattle.flow_limits.proofs.FlowWithin as within
-use Rattle.flow_limits.proofs.Levels.{aside-wider, level-wider}
-use Rattle.flow_limits.proofs.LinesWithin.{levels-wider, lines-within}
-use Rattle.flow_limits.proofs.Rising.{rise-of-lines}
-use Rattle.flow_limits.proofs.WaysWithin as ways
+use Rattle.page_limits.specs.Bounds.{Bounds, AreInside, grown, all_around, IsBandIn, IsLevelIn}
+use Rattle.page_limits.specs.Boxes.{IsAloneIn, IsBoxSmall, IsWhole}
+use Rattle.page_limits.specs.Inline.{AreLinesIn, IsContentSmall, IsEntryIn}
+use Rattle.page_limits.specs.Rises.{content_rise}
+use Rattle.page_limits.proofs.Ahead.{rise}
+use Rattle.page_limits.proofs.BoxesWithin.{box-wider}
+use Rattle.page_limits.proofs.ContentWithin.{first-least, line_context}
+use Rattle.page_limits.proofs.FloatsMet.{band-wider, floats-wider}
+use Rattle.page_limits.proofs.FlowWithin as within
+use Rattle.page_limits.proofs.Levels.{aside-wider, level-wider}
+use Rattle.page_limits.proofs.LinesWithin.{levels-wider, lines-within}
+use Rattle.page_limits.proofs.Rising.{rise-of-lines}
+use Rattle.page_limits.proofs.WaysWithin as ways
 use Rattle.lay_flow.specs.Fits.{IsEntryLow, IsReplacedFit, IsShapeFit}
 use Rattle.lay_flow.specs.Low.{reach, IsBandLow, IsContextLow, IsLevelLow, IsRunLow, IsClearedLow, IsFrameLow, IsStandingLow}
 use Rattle.lay_flow.proofs.PageFits.{IsBoxFit}

@@ -16,18 +16,18 @@ use Rattle.lay_margin.specs.Runs.{no_run}
 use Rattle.flow_steps.specs.Flow as flow
 use Rattle.flow_steps.specs.Flow.{Context, Standing, Step, at_top, below, fresh, content_of}
 use Rattle.flow_steps.proofs.Sound.{IsFlowKid, IsSound, flow-sound}
-use Rattle.flow_limits.specs.Bounds.{Bounds, AreInside, grown, all_around, together, IsBandIn, IsLevelIn}
-use Rattle.flow_limits.specs.Boxes.{IsAloneIn, IsBoxSmall, IsWhole}
-use Rattle.flow_limits.specs.Inline.{IsContentSmall}
-use Rattle.flow_limits.specs.Rises.{content_rise}
-use Rattle.flow_limits.proofs.Ahead.{IsPending, enter-pending, rise}
-use Rattle.flow_limits.proofs.BoxesWithin.{none-low}
-use Rattle.flow_limits.proofs.ContentBoxes.{flow-whole}
-use Rattle.flow_limits.proofs.ContentWithin.{line_context, content-in}
-use Rattle.flow_limits.proofs.FloatsMet.{band-wider}
-use Rattle.flow_limits.proofs.FlowWithin as within
-use Rattle.flow_limits.proofs.Levels.{inside-grown, inside-more, level-wider}
-use Rattle.flow_limits.proofs.Rising.{rise-of-kids}
+use Rattle.page_limits.specs.Bounds.{Bounds, AreInside, grown, all_around, together, IsBandIn, IsLevelIn}
+use Rattle.page_limits.specs.Boxes.{IsAloneIn, IsBoxSmall, IsWhole}
+use Rattle.page_limits.specs.Inline.{IsContentSmall}
+use Rattle.page_limits.specs.Rises.{content_rise}
+use Rattle.page_limits.proofs.Ahead.{IsPending, enter-pending, rise}
+use Rattle.page_limits.proofs.BoxesWithin.{none-low}
+use Rattle.page_limits.proofs.ContentBoxes.{flow-whole}
+use Rattle.page_limits.proofs.ContentWithin.{line_context, content-in}
+use Rattle.page_limits.proofs.FloatsMet.{band-wider}
+use Rattle.page_limits.proofs.FlowWithin as within
+use Rattle.page_limits.proofs.Levels.{inside-grown, inside-more, level-wider}
+use Rattle.page_limits.proofs.Rising.{rise-of-kids}
 use Rattle.lay_flow.specs.Low.{IsClearedLow}
 use Rattle.lay_flow.specs.WalkFits.{Place, before_content, before_children, before_child, before_flow, when_reached, when_starting, when_going_on}
 use Rattle.lay_flow.proofs.Same.{child-same}

@@ -25,16 +25,16 @@ use Rattle.lay_margin.specs.steps.Leads.{enters, inner_band, margin_above, margi
 use Rattle.flow_steps.specs.Forward.{Found, End, goes_on, solid, cleared, found, kid_of, passed_box, way}
 use Rattle.flow_steps.proofs.LeadCases.{found-float, found-flow}
 use Rattle.flow_steps.proofs.Sound.{IsFlowKid, enters-no-line, lead-sound}
-use Rattle.flow_limits.specs.Bounds.{Bounds, AreInside, grown, all_around, together, IsLevelIn, IsBandIn, IsFloatIn}
-use Rattle.flow_limits.specs.Boxes.{AreWidthsSmall, IsWhole, IsBoxSmall}
-use Rattle.flow_limits.proofs.Levels.{level-wider, inside-grown, inside-more, together-append}
-use Rattle.flow_limits.proofs.FloatsMet.{floats-wider, band-wider}
-use Rattle.flow_limits.proofs.LinesWithin.{levels-wider}
-use Rattle.flow_limits.proofs.Rising.{rise-of-kids, rise-box, rise-float}
-use Rattle.flow_limits.proofs.ContentBoxes.{flow-whole}
-use Rattle.flow_limits.proofs.Ahead.{rise}
-use Rattle.flow_limits.proofs.WaysWithin as within
-use Rattle.flow_limits.proofs.WaysWithin.{run-with, margin-small, DoWaitIn, IsBaseIn, IsSizeIn, IsBoxFound, way-in}
+use Rattle.page_limits.specs.Bounds.{Bounds, AreInside, grown, all_around, together, IsLevelIn, IsBandIn, IsFloatIn}
+use Rattle.page_limits.specs.Boxes.{AreWidthsSmall, IsWhole, IsBoxSmall}
+use Rattle.page_limits.proofs.Levels.{level-wider, inside-grown, inside-more, together-append}
+use Rattle.page_limits.proofs.FloatsMet.{floats-wider, band-wider}
+use Rattle.page_limits.proofs.LinesWithin.{levels-wider}
+use Rattle.page_limits.proofs.Rising.{rise-of-kids, rise-box, rise-float}
+use Rattle.page_limits.proofs.ContentBoxes.{flow-whole}
+use Rattle.page_limits.proofs.Ahead.{rise}
+use Rattle.page_limits.proofs.WaysWithin as within
+use Rattle.page_limits.proofs.WaysWithin.{run-with, margin-small, DoWaitIn, IsBaseIn, IsSizeIn, IsBoxFound, way-in}
 use Rattle.lay_flow.specs.Low.{reach, IsBandLow, IsRunLow, IsBaseLow, IsWaitingLow}
 use Rattle.lay_flow.specs.WayFits.{IsBoxLow, Stage, one, several, ComesTo, here, inside, first, later, waiting_reach, IsGoingLow, WayFits}
 

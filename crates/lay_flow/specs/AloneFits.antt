@@ -8,7 +8,7 @@ use Rattle.layout_semantics.specs.Blocks.{kind_of, parent_of}
 use Rattle.layout_semantics.specs.Flow.{Alone}
 use Rattle.layout_semantics.specs.FlowBoxes.{content_from, is_replaced_at, room, room_to}
 use Rattle.layout_semantics.specs.Rectangles.{Frame, content_top}
-use Rattle.flow_limits.specs.Bounds.{IsQuadIn}
+use Rattle.page_limits.specs.Bounds.{IsQuadIn}
 use Rattle.flow_steps.specs.Flow.{Context, fresh}
 use Rattle.flow_steps.specs.Tables.{laid_at, outside_of}
 use Rattle.lay_flow.specs.Low.{IsContextLow, IsFrameLow}

@@ -14,9 +14,9 @@ use Rattle.layout_semantics.specs.Preferred.{preferred}
 use Rattle.layout_semantics.specs.Replaced.{by_ratio, intrinsic, replaced_size}
 use Rattle.layout_semantics.specs.Verticals.{verticals}
 use Rattle.lay_width.specs.Fitting.{VerticalsFit, HeldFits, in_block, WidthsFit, DefiniteFits_to, HeightFits, GivenFits, ReplacedFits}
-use Rattle.flow_limits.specs.Bounds.{Bounds, all_around, IsPlacedIn}
-use Rattle.flow_limits.specs.Boxes.{AreWidthsSmall, AreSidesSmall, IsHeightHeld}
-use Rattle.flow_limits.specs.Inline.{IsSmall}
+use Rattle.page_limits.specs.Bounds.{Bounds, all_around, IsPlacedIn}
+use Rattle.page_limits.specs.Boxes.{AreWidthsSmall, AreSidesSmall, IsHeightHeld}
+use Rattle.page_limits.specs.Inline.{IsSmall}
 use Rattle.lay_flow.specs.Low.{reach}
 
 -- ---- what comes of few numbers that are low

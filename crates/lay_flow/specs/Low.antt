@@ -9,8 +9,8 @@ use Rattle.layout_semantics.specs.Rectangles.{Frame}
 use Rattle.layout_semantics.specs.Clearance.{Base, hangs, stands}
 use Rattle.lay_margin.specs.declared.runs.Run.{Run}
 use Rattle.flow_steps.specs.Flow.{Standing, at_top, below, Context}
-use Rattle.flow_limits.specs.Bounds.{Bounds, all_around, IsLevelIn, IsAsideIn, IsBandIn, IsExtentIn, IsFloatIn, IsPlacedIn}
-use Rattle.flow_limits.specs.Boxes.{AreWidthsSmall, AreSidesSmall}
+use Rattle.page_limits.specs.Bounds.{Bounds, all_around, IsLevelIn, IsAsideIn, IsBandIn, IsExtentIn, IsFloatIn, IsPlacedIn}
+use Rattle.page_limits.specs.Boxes.{AreWidthsSmall, AreSidesSmall}
 
 -- so far to each side
 abbrev pub reach : Bounds

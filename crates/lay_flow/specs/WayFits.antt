@@ -19,7 +19,7 @@ use Rattle.lay_margin.specs.Runs.{no_run, with_margin}
 use Rattle.lay_margin.specs.steps.Leads.{enters, inner_band, margin_above, margin_below}
 use Rattle.flow_steps.specs.Flow.{Standing, at_top, below, Context, ground_of}
 use Rattle.flow_steps.specs.Forward.{Found, goes_on, cleared_of, kid_of, forward, way}
-use Rattle.flow_limits.specs.Bounds.{all_around, levels_of, IsLevelIn, IsBandIn, IsFloatIn}
+use Rattle.page_limits.specs.Bounds.{all_around, levels_of, IsLevelIn, IsBandIn, IsFloatIn}
 use Rattle.lay_flow.specs.Low.{reach, IsLevelLow, AreLevelsLow, IsAsideLow, IsRunLow, IsClearedLow, IsBaseLow, IsWaitingLow}
 
 -- ---- boxes whose margins may adjoin

@@ -17,7 +17,7 @@ ghost use Rattle.lay_flow.specs.steps.Flow.{corner_of, alone_of};
 ghost use Rattle.lay_flow.specs.steps.Flow.{replaced_alone as replaced_alone_of, context_alone as context_alone_of};
 ghost use Rattle.lay_preferred.specs.Fitting.{BoxesFit};
 ghost use Rattle.lay_flow.specs.Low.{IsFrameLow};
-ghost use Rattle.flow_limits.specs.Bounds.{IsQuadIn};
+ghost use Rattle.page_limits.specs.Bounds.{IsQuadIn};
 ghost use Rattle.lay_flow.specs.Fits.{IsReplacedFit, IsShapeFit, near};
 
 use crate::frames::{context_box, replaced_box};

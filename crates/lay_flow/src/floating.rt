@@ -8,7 +8,7 @@ ghost use Rattle.lay_float.specs.Readings.{extent_at};
 ghost use Rattle.lay_flow.specs.Readings.{apart_at};
 ghost use Rattle.std.specs.List.{AllByRecursion};
 ghost use Rattle.lay_flow.specs.Low.{IsAloneLow, reach};
-ghost use Rattle.flow_limits.specs.Bounds.{IsExtentIn, IsPlacedIn, IsQuadIn};
+ghost use Rattle.page_limits.specs.Bounds.{IsExtentIn, IsPlacedIn, IsQuadIn};
 ghost use Rattle.lay_flow.specs.Fits.{IsSpotNear};
 
 use crate::parts::Alone;

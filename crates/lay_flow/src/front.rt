@@ -6,7 +6,7 @@ ghost use Rattle.viz_calc.specs.State.{Grows, AreOpen, CauseButMem, is_told};
 ghost use Rattle.viz_calc.specs.Renderings.{rendering_at};
 ghost use Rattle.layout_semantics.specs.Page.{page_rendering};
 ghost use Rattle.lay_length.specs.Limits.{IsSmallPage, IsWithinLimits};
-ghost use Rattle.flow_limits.specs.Bounds.{IsPlacedIn, all_around};
+ghost use Rattle.page_limits.specs.Bounds.{IsPlacedIn, all_around};
 
 use crate::page;
 use std::alloc::Global;

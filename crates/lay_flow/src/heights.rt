@@ -12,7 +12,7 @@ ghost use Rattle.lay_flow.specs.steps.Flow.{tall_of};
 ghost use Rattle.lay_flow.specs.steps.Flow.{lowest_of};
 ghost use Rattle.std.specs.List.{AllByRecursion};
 ghost use Rattle.lay_flow.specs.Low.{IsContextLow, IsStandingLow, reach};
-ghost use Rattle.flow_limits.specs.Bounds.{IsFloatIn};
+ghost use Rattle.page_limits.specs.Bounds.{IsFloatIn};
 ghost use Rattle.lay_flow.specs.Fits.{IsHeightFit, IsNear, IsReplacedFit, OwnFits};
 
 use crate::parts::{Context, Page, Standing};

@@ -17,7 +17,7 @@ use Rattle.lay_width.specs.steps.Terms.{around, room_between, below, again}
 use Rattle.lay_width.specs.Fitting.{UsedFits, EdgesFit, VerticalsFit, FixedFits, HoldFits, BlockFits, BlockFitsBy, FillingFits, GivenBlockFits, FixedBlockFits, FittedFits, ShrunkFits, sum_way, room_way}
 use Rattle.lay_length.proofs.SmallExtents.{IsLowTree}
 use Rattle.lay_length.proofs.SmallNumbers.{size-+, size--, size-floor, size-between}
-use Rattle.flow_limits.specs.Boxes.{AreWidthsSmall}
+use Rattle.page_limits.specs.Boxes.{AreWidthsSmall}
 use Rattle.page_limits.specs.Across.{AreWidthsBounded}
 use Rattle.page_limits.proofs.WidthsTerms.{width_in, room-plain}
 use Rattle.page_limits.proofs.FitsLengths.{IsLow, AreLengthsLow, used-fits, most-fits, max_width_in}

@@ -23,8 +23,8 @@ use Rattle.layout_laws.proofs.Reaching.{ratio_least}
 use Rattle.lay_width.specs.Fitting.{UsedFits, VerticalsFit, in_block, WidthsFit, BlockFits, ReplacedFits, TentativeFits, RatioFits}
 use Rattle.lay_margin.specs.Fitting.{BoxFits, InsideFits, MarginFits, content_way}
 use Rattle.lay_length.proofs.SmallNumbers.{size-+, size--}
-use Rattle.flow_limits.specs.Boxes.{AreWidthsSmall, IsWhole}
-use Rattle.flow_limits.proofs.TermsWithin.{box-small}
+use Rattle.page_limits.specs.Boxes.{AreWidthsSmall, IsWhole}
+use Rattle.page_limits.proofs.TermsWithin.{box-small}
 use Rattle.page_limits.specs.Across.{AreWidthsBounded}
 use Rattle.page_limits.proofs.WidthsCosts.{by_height}
 use Rattle.page_limits.proofs.WidthsTerms.{far, height_in, width_in}

@@ -20,7 +20,7 @@ use Rattle.layout_semantics.proofs.Pages.{forest, root-alone, root_place, Each-c
 use Rattle.layout_laws.proofs.Upward.{container-by-parent, definite-by-container}
 use Rattle.lay_width.specs.Fitting.{HeightFits, MostHeightFits, HeldFits, OwnHeightFits, DefiniteFits_to, GivenFits}
 use Rattle.lay_length.proofs.SmallExtents.{IsLowTree}
-use Rattle.flow_limits.specs.Boxes.{IsWhole}
+use Rattle.page_limits.specs.Boxes.{IsWhole}
 use Rattle.page_limits.proofs.WidthsCosts.{kind-at}
 use Rattle.page_limits.proofs.WidthsLevels.{IsFarPage, holds, near-up}
 use Rattle.page_limits.proofs.WidthsPage.{IsBoxOn, whole-on, bounded}

@@ -17,7 +17,7 @@ use Rattle.viz_base.specs.declared.worlds.World.{World}
 use Rattle.layout_semantics.specs.Lengths.{own_style, no_sides}
 use Rattle.lay_width.specs.Fitting.{UsedFits, MostFits}
 use Rattle.lay_length.proofs.SmallExtents.{IsLowTree, IsElementOf, IsLowLength, style-of, style-low, used-size, way-small}
-use Rattle.flow_limits.specs.Boxes.{IsWhole}
+use Rattle.page_limits.specs.Boxes.{IsWhole}
 use Rattle.page_limits.proofs.WidthsCosts.{kind-at, own-style-at, no-style-at}
 use Rattle.page_limits.proofs.WidthsTerms.{margins_in, paddings_in, borders_in, width_in, min_width_in, height_in, min_height_in}
 

@@ -30,10 +30,10 @@ use Rattle.lay_line.proofs.Growth.{items_high}
 use Rattle.lay_line.proofs.Parts.{bare-measured}
 use Rattle.lay_length.proofs.SmallNumbers.{size-+, size-max}
 use Rattle.flow_steps.proofs.InOrder.{whole_no_inline}
-use Rattle.flow_limits.specs.Boxes.{IsPartOf, IsWhole}
-use Rattle.flow_limits.specs.Bounds.{all_around, IsBandIn, IsFloatIn, IsLevelIn}
-use Rattle.flow_limits.proofs.ContentBoxes.{ItemIn, content-items}
-use Rattle.flow_limits.proofs.TermsWithin.{box-small}
+use Rattle.page_limits.specs.Boxes.{IsPartOf, IsWhole}
+use Rattle.page_limits.specs.Bounds.{all_around, IsBandIn, IsFloatIn, IsLevelIn}
+use Rattle.page_limits.proofs.ContentBoxes.{ItemIn, content-items}
+use Rattle.page_limits.proofs.TermsWithin.{box-small}
 use Rattle.page_limits.proofs.WidthsLevels.{IsFarPage}
 use Rattle.page_limits.proofs.PageSmall.{inline-small, properties-small}
 use Rattle.page_limits.proofs.FitsEdges.{start-fits, finish-fits}

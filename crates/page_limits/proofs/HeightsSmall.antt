@@ -12,8 +12,8 @@ use Rattle.layout_semantics.specs.LineHeights.{InlineContext, LineExtent}
 use Rattle.layout_semantics.specs.Order.{IsOnPage}
 use Rattle.layout_semantics.proofs.Pages.{within-page}
 use Rattle.lay_length.proofs.SmallExtents.{IsLowTree}
-use Rattle.flow_limits.specs.Boxes.{IsWhole, middle_of}
-use Rattle.flow_limits.specs.Raises.{AreRaisedBy, AreRaisesSmall, own_raise, raise_around}
+use Rattle.page_limits.specs.Boxes.{IsWhole, middle_of}
+use Rattle.page_limits.specs.Raises.{AreRaisedBy, AreRaisesSmall, own_raise, raise_around}
 use Rattle.page_limits.specs.Tall.{AreHeightsBounded, AreFontsBounded}
 use Rattle.page_limits.proofs.WidthsLevels.{IsFarPage}
 use Rattle.page_limits.proofs.WidthsPage.{whole-on}

@@ -9,9 +9,9 @@ use Rattle.layout_semantics.specs.Order.{IsOnPage}
 use Rattle.layout_semantics.specs.Page.{page_rendering}
 use Rattle.lay_length.specs.Limits.{IsSmallPage}
 use Rattle.flow_steps.proofs.InOrder.{root-whole}
-use Rattle.flow_limits.specs.Bounds.{IsPlacedIn, all_around}
-use Rattle.flow_limits.specs.Boxes.{ArePropertiesSmall, IsInlineBoxSmall, IsWhole}
-use Rattle.flow_limits.proofs.WholePage.{page-within}
+use Rattle.page_limits.specs.Bounds.{IsPlacedIn, all_around}
+use Rattle.page_limits.specs.Boxes.{ArePropertiesSmall, IsInlineBoxSmall, IsWhole}
+use Rattle.page_limits.proofs.WholePage.{page-within}
 use Rattle.page_limits.proofs.WidthsLevels.{IsFarPage}
 use Rattle.page_limits.proofs.WidthsSmall.{far-page, whole-bounded, inline-bounded}
 use Rattle.page_limits.proofs.HeightsSmall.{heights-bounded, fonts-bounded, raises-small}

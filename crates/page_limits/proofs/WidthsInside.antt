@@ -25,7 +25,7 @@ use Rattle.layout_semantics.proofs.Forest.{IsKid}
 use Rattle.layout_semantics.proofs.Orders.{document_order-is}
 use Rattle.layout_semantics.proofs.Pages.{forest}
 use Rattle.layout_laws.proofs.Levels.{All-implied}
-use Rattle.flow_limits.proofs.Levels.{All-map}
+use Rattle.page_limits.proofs.Levels.{All-map}
 use Rattle.page_limits.proofs.WidthsLists.{costs, costs-append, costs-both, each-within, IsSized, greatest-size, total-size, child_size, block-sizes, stays-cost, parts-cost, entries, measured-size}
 
 module _ (tree : BoxTree) (w : World) where

@@ -11,8 +11,8 @@ use Rattle.layout_semantics.specs.Lengths.{used, used_unless_auto, own, margins,
 use Rattle.layout_semantics.specs.Preferred.{preferred}
 use Rattle.layout_semantics.specs.Replaced.{replaced_size}
 use Rattle.layout_semantics.specs.Verticals.{verticals}
-use Rattle.flow_limits.specs.Inline.{IsSmall}
-use Rattle.flow_limits.specs.Boxes.{AreSidesSmall, IsWidthWithin, edges_at}
+use Rattle.page_limits.specs.Inline.{IsSmall}
+use Rattle.page_limits.specs.Boxes.{AreSidesSmall, IsWidthWithin, edges_at}
 
 -- each width of a box, with its edges and its containing block, is at most so large, and so is each edge
 pub record AreWidthsBounded (tree : BoxTree) (w : World) (most k : ℕ) : Type 0 where

@@ -9,8 +9,8 @@ use Rattle.layout_semantics.specs.Fonts.{ascent, descent, text_width}
 use Rattle.layout_semantics.specs.InlineContent.{text_of}
 use Rattle.layout_semantics.specs.LineHeights.{inline_extent}
 use Rattle.layout_semantics.specs.Replaced.{replaced_size}
-use Rattle.flow_limits.specs.Boxes.{IsPartOf}
-use Rattle.flow_limits.specs.Inline.{IsSmall}
+use Rattle.page_limits.specs.Boxes.{IsPartOf}
+use Rattle.page_limits.specs.Inline.{IsSmall}
 
 -- each height of a box is at most so large
 pub record AreHeightsBounded (tree : BoxTree) (w : World) (most k : ℕ) : Type 0 where

@@ -2,8 +2,8 @@ ghost use Rattle.std.specs.Prelude.{◌≤◌, ◌^◌, ℕ, length, chars, sum_
 ghost use Rattle.viz_base.specs.declared.trees.BoxNode.{BoxNode};
 ghost use Rattle.layout_semantics.specs.Order.{IsOnPage};
 ghost use Rattle.lay_length.specs.Limits.{IsSmallPage};
-ghost use Rattle.flow_limits.specs.Boxes.{IsWhole};
-ghost use Rattle.flow_limits.specs.Raises.{AreRaisesSmall};
+ghost use Rattle.page_limits.specs.Boxes.{IsWhole};
+ghost use Rattle.page_limits.specs.Raises.{AreRaisesSmall};
 ghost use Rattle.page_limits.specs.Tall.{AreHeightsBounded, AreFontsBounded};
 
 use viz_base::{BoxTree, World};

@@ -3,7 +3,7 @@ ghost use Rattle.std.specs.List.{AllByRecursion};
 ghost use Rattle.viz_base.specs.declared.trees.BoxNode.{BoxNode};
 ghost use Rattle.layout_semantics.specs.Page.{page_rendering};
 ghost use Rattle.lay_length.specs.Limits.{IsSmallPage};
-ghost use Rattle.flow_limits.specs.Bounds.{IsPlacedIn, all_around};
+ghost use Rattle.page_limits.specs.Bounds.{IsPlacedIn, all_around};
 
 use viz_base::{BoxTree, World};
 

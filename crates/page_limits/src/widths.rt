@@ -4,7 +4,7 @@ ghost use Rattle.viz_base.specs.declared.trees.BoxNode.{BoxNode};
 ghost use Rattle.layout_semantics.specs.Blocks.{kind_of};
 ghost use Rattle.layout_semantics.specs.Order.{IsOnPage};
 ghost use Rattle.lay_length.specs.Limits.{IsSmallPage};
-ghost use Rattle.flow_limits.specs.Boxes.{IsWhole};
+ghost use Rattle.page_limits.specs.Boxes.{IsWhole};
 ghost use Rattle.page_limits.specs.Across.{AreEdgesSmall, AreWidthsBounded};
 
 use viz_base::{BoxTree, World};

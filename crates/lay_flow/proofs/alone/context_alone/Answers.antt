@@ -4,7 +4,7 @@ use Rattle.viz_calc.specs.World.{Reading}
 use Rattle.viz_calc.specs.Renderings.{band_at}
 use Rattle.layout_semantics.specs.FlowBoxes.{content_from}
 use Rattle.layout_semantics.specs.Rectangles.{content_top}
-use Rattle.flow_limits.specs.Bounds.{IsQuadIn}
+use Rattle.page_limits.specs.Bounds.{IsQuadIn}
 use Rattle.flow_steps.specs.Flow.{fresh}
 use Rattle.lay_frame.specs.Readings.{frame_at}
 use Rattle.lay_flow.specs.AloneFits.{RootFits}

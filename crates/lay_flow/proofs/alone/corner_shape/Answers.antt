@@ -4,7 +4,7 @@ use Rattle.viz_calc.proofs.Runs.{Goes-then}
 use Rattle.lay_line.proofs.Chains.{but_mem}
 use Rattle.lay_preferred.specs.Fitting.{BoxesFit}
 use Rattle.lay_preferred.proofs.Founds.{found-later}
-use Rattle.flow_limits.specs.Boxes.{AreWidthsSmall, AreSidesSmall}
+use Rattle.page_limits.specs.Boxes.{AreWidthsSmall, AreSidesSmall}
 use Rattle.lay_flow.specs.Fits.{IsShapeFit}
 use Rattle.lay_flow.proofs.Following.{first, then}
 use Rattle.lay_flow.proofs.Sizes.{aside-fits}

@@ -3,7 +3,7 @@ use Rattle.std.proofs.lemmas.Grind.{common_steps}
 use Rattle.viz_calc.specs.World.{Reading}
 use Rattle.viz_calc.specs.Renderings.{quad_at}
 use Rattle.lay_line.proofs.Chains.{start, next}
-use Rattle.flow_limits.specs.Bounds.{IsQuadIn}
+use Rattle.page_limits.specs.Bounds.{IsQuadIn}
 use Rattle.lay_flow.specs.Fits.{near}
 use Rattle.lay_flow.proofs.Sizes.{near-difference, quad-size}
 use Rattle.lay_flow.proofs.alone.outer_extent.Goals as goal

@@ -5,7 +5,7 @@ use Rattle.viz_calc.specs.World.{Reading}
 use Rattle.layout_semantics.specs.Replaced.{replaced_size}
 use Rattle.lay_frame.specs.Readings.{frame_at}
 use Rattle.lay_line.proofs.Chains.{start_but_mem, next_but_mem, but_mem}
-use Rattle.flow_limits.specs.Bounds.{IsQuadIn}
+use Rattle.page_limits.specs.Bounds.{IsQuadIn}
 use Rattle.lay_flow.specs.Low.{IsFrameLow}
 use Rattle.lay_flow.specs.Fits.{IsReplacedFit, near}
 use Rattle.lay_flow.specs.steps.Flow.{replaced_of}

@@ -6,7 +6,7 @@ use Rattle.viz_calc.specs.Renderings.{spot_at}
 use Rattle.layout_semantics.specs.Rectangles.{shifted}
 use Rattle.lay_frame.specs.Readings.{boxes_at}
 use Rattle.lay_line.proofs.Chains.{start_but_mem}
-use Rattle.flow_limits.specs.Bounds.{IsPlacedIn}
+use Rattle.page_limits.specs.Bounds.{IsPlacedIn}
 use Rattle.lay_flow.specs.Low.{reach, IsAloneLow}
 use Rattle.lay_flow.specs.Fits.{IsSpotNear}
 use Rattle.lay_flow.specs.Readings.{apart_at}

@@ -10,7 +10,7 @@ use Rattle.layout_semantics.specs.Rectangles.{shifted, shifted_box}
 use Rattle.lay_frame.specs.Readings.{boxes_at}
 use Rattle.lay_line.proofs.Chains.{ChainButMem, next_but_mem, but_mem}
 use Rattle.lay_line.proofs.Found.{all-here, all-from}
-use Rattle.flow_limits.specs.Bounds.{IsPlacedIn}
+use Rattle.page_limits.specs.Bounds.{IsPlacedIn}
 use Rattle.lay_flow.specs.Low.{reach}
 use Rattle.lay_flow.specs.Fits.{IsSpotNear}
 use Rattle.lay_flow.proofs.floating.add_each.Goals as goal

@@ -3,7 +3,7 @@ use Rattle.viz_calc.specs.World.{Reading}
 use Rattle.viz_calc.specs.Run.{Goes, BlamesButMem}
 use Rattle.viz_calc.specs.Renderings.{spot_at}
 use Rattle.std.specs.List.{AllByRecursion}
-use Rattle.flow_limits.specs.Bounds.{IsPlacedIn}
+use Rattle.page_limits.specs.Bounds.{IsPlacedIn}
 use Rattle.lay_flow.specs.Low.{reach}
 use Rattle.lay_flow.specs.Fits.{IsSpotNear}
 use Rattle.layout_semantics.specs.Rectangles.{shifted}

@@ -3,7 +3,7 @@ use Rattle.std.proofs.lemmas.Grind.{common_steps}
 use Rattle.viz_calc.specs.World.{Reading}
 use Rattle.lay_float.specs.Readings.{extent_at}
 use Rattle.lay_line.proofs.Chains.{start, next}
-use Rattle.flow_limits.specs.Bounds.{IsExtentIn}
+use Rattle.page_limits.specs.Bounds.{IsExtentIn}
 use Rattle.lay_flow.specs.Low.{reach}
 use Rattle.lay_flow.proofs.Sizes.{aside-fits, level-fits}
 use Rattle.lay_flow.proofs.floating.copy_extent.Goals as goal

@@ -3,7 +3,7 @@ use Rattle.std.proofs.lemmas.Grind.{common_steps}
 use Rattle.viz_calc.specs.World.{Reading}
 use Rattle.viz_calc.specs.Renderings.{placed_at, spot_at}
 use Rattle.lay_line.proofs.Chains.{start, next}
-use Rattle.flow_limits.specs.Bounds.{IsPlacedIn}
+use Rattle.page_limits.specs.Bounds.{IsPlacedIn}
 use Rattle.lay_flow.specs.Low.{reach}
 use Rattle.lay_flow.specs.Fits.{IsSpotNear}
 use Rattle.lay_flow.proofs.floating.shift_box.Goals as goal

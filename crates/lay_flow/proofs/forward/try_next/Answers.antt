@@ -7,7 +7,7 @@ use Rattle.lay_float.specs.Limits.{AreHalf}
 use Rattle.lay_float.specs.Readings.{floats_at, option_at}
 use Rattle.lay_line.proofs.Chains.{but_mem, start_but_mem, next_but_mem}
 use Rattle.lay_margin.specs.Readings.{waiting_at as waiting_in}
-use Rattle.flow_limits.specs.Bounds.{levels_of}
+use Rattle.page_limits.specs.Bounds.{levels_of}
 use Rattle.flow_steps.specs.Flow.{size_in}
 use Rattle.lay_trial.specs.Readings.{coming_at, trial_at}
 use Rattle.lay_trial.specs.Trials.{next_tried}

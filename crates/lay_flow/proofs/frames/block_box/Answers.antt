@@ -5,7 +5,7 @@ use Rattle.layout_semantics.specs.DefiniteHeights.{held_height}
 use Rattle.lay_frame.specs.Readings.{frame_at}
 use Rattle.lay_width.specs.Readings.{option_at}
 use Rattle.lay_line.proofs.Chains.{Chain, start, next}
-use Rattle.flow_limits.specs.Inline.{IsSmall}
+use Rattle.page_limits.specs.Inline.{IsSmall}
 use Rattle.lay_flow.specs.Low.{IsContextLow, IsFrameLow}
 use Rattle.lay_flow.specs.Fits.{IsHeightFit, IsNear}
 use Rattle.lay_flow.specs.Readings.{context_at}

@@ -5,7 +5,7 @@ use Rattle.layout_semantics.specs.FlowBoxes.{across}
 use Rattle.lay_line.proofs.Chains.{but_mem}
 use Rattle.lay_preferred.specs.Fitting.{BoxesFit}
 use Rattle.lay_preferred.proofs.Causes.{fits-later}
-use Rattle.flow_limits.specs.Boxes.{AreWidthsSmall}
+use Rattle.page_limits.specs.Boxes.{AreWidthsSmall}
 use Rattle.lay_flow.specs.Low.{IsBandLow, IsLevelLow}
 use Rattle.lay_flow.specs.Fits.{IsShapeFit}
 use Rattle.lay_flow.proofs.Following.{first, then}

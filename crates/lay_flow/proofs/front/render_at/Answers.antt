@@ -6,7 +6,7 @@ use Rattle.viz_base.specs.declared.worlds.World.{World}
 use Rattle.viz_calc.specs.Plain.{plain_state, plain_reading}
 use Rattle.viz_calc.proofs.PlainLemmas.{open_reading, world-stays}
 use Rattle.lay_frame.proofs.Slots.{plain_boxes}
-use Rattle.flow_limits.specs.Bounds.{IsPlacedIn, all_around}
+use Rattle.page_limits.specs.Bounds.{IsPlacedIn, all_around}
 use Rattle.page_limits.proofs.PageSmall.{coordinates-small}
 use Rattle.lay_flow.proofs.front.render_at.Goals as goal
 

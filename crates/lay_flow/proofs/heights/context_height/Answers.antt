@@ -4,7 +4,7 @@ use Rattle.std.specs.List.{AllByRecursion}
 use Rattle.viz_calc.specs.World.{Reading}
 use Rattle.lay_float.specs.Readings.{boxes_at}
 use Rattle.lay_line.proofs.Chains.{start, next}
-use Rattle.flow_limits.specs.Bounds.{IsFloatIn}
+use Rattle.page_limits.specs.Bounds.{IsFloatIn}
 use Rattle.lay_flow.specs.Low.{reach, IsContextLow}
 use Rattle.lay_flow.specs.Fits.{IsNear}
 use Rattle.lay_flow.specs.Readings.{context_at}

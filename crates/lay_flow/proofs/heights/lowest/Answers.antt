@@ -9,7 +9,7 @@ use Rattle.lay_float.specs.Readings.{boxes_at, box_at}
 use Rattle.lay_float.specs.declared.floats.PlacedFloat.{PlacedFloat}
 use Rattle.lay_line.proofs.Chains.{Chain, start, next}
 use Rattle.lay_line.proofs.Found.{all-next, all-from}
-use Rattle.flow_limits.specs.Bounds.{IsFloatIn}
+use Rattle.page_limits.specs.Bounds.{IsFloatIn}
 use Rattle.lay_flow.specs.Low.{reach}
 use Rattle.lay_flow.specs.Fits.{IsNear}
 use Rattle.lay_flow.specs.steps.Flow.{lowest_of}

@@ -2,7 +2,7 @@ use Rattle.std.proofs.Common.{◌≡◌, ◌-◌, length, drop, IsTrue}
 use Rattle.viz_calc.specs.World.{Reading}
 use Rattle.viz_calc.specs.Run.{Goes, Blames}
 use Rattle.std.specs.List.{AllByRecursion}
-use Rattle.flow_limits.specs.Bounds.{IsFloatIn}
+use Rattle.page_limits.specs.Bounds.{IsFloatIn}
 use Rattle.lay_flow.specs.Low.{reach}
 use Rattle.lay_flow.specs.Fits.{IsNear}
 use Rattle.lay_float.specs.Readings.{boxes_at}

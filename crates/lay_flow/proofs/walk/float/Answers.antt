@@ -6,7 +6,7 @@ use Rattle.lay_frame.specs.Readings.{boxes_at}
 use Rattle.layout_semantics.specs.Floats.{floating}
 use Rattle.lay_float.specs.Readings.{extent_at, floats_at, option_at}
 use Rattle.lay_line.proofs.Chains.{start_but_mem, next_but_mem, but_mem}
-use Rattle.flow_limits.specs.Bounds.{IsExtentIn}
+use Rattle.page_limits.specs.Bounds.{IsExtentIn}
 use Rattle.flow_steps.specs.Flow.{next_edge}
 use Rattle.lay_flow.specs.Low.{reach, IsAloneLow, IsBandLow, IsContextLow}
 use Rattle.lay_flow.specs.Fits.{IsNear, IsSpotNear}

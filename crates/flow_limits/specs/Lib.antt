@@ -1,6 +1,0 @@
-pub mod Bounds
-pub mod Inline
-pub mod Rises
-pub mod Boxes
-pub mod Loads
-pub mod Raises
