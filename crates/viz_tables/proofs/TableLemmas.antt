@@ -7,7 +7,7 @@ use Rattle.page_build.specs.declared.faults.JobRefusal.{JobRefusal}
 use Rattle.page_build.specs.declared.faults.JobRefusal.TheVariants as JobRefusals
 use Rattle.page_build.specs.Jobs.{AreRefusedWith}
 use Rattle.viz_base.specs.declared.memory.Mem.{Mem}
-use Rattle.viz_list.specs.declared.rules.Rule.{Rule}
+use Rattle.viz_tables.specs.declared.rules.Rule.{Rule}
 use Rattle.viz_tables.specs.declared.table.Table.{Table}
 use Rattle.viz_tables.specs.declared.table.TableAnswer.{TableAnswer}
 use Rattle.viz_tables.specs.Lines.{line_text}

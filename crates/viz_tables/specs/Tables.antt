@@ -6,8 +6,8 @@ use Rattle.page_build.specs.declared.faults.JobRefusal.TheVariants.{Bad, Unbound
 use Rattle.page_build.specs.Jobs.{AreJobsWith, AreRefusedWith}
 use Rattle.viz_replies.specs.Jobs.{job_most, long_line, refusal_line}
 use Rattle.viz_base.specs.declared.jobs.Job.{Job}
-use Rattle.viz_list.specs.declared.rules.Rule.{Rule}
-use Rattle.viz_list.specs.Lists.{IsListOf}
+use Rattle.viz_tables.specs.declared.rules.Rule.{Rule}
+use Rattle.viz_tables.specs.Lists.{IsListOf}
 use Rattle.viz_survey.specs.declared.words.Line.{Line}
 use Rattle.viz_survey.specs.Surveys.{IsSurvey}
 use Rattle.viz_tables.specs.declared.table.TableAnswer.{TableAnswer}

@@ -4,11 +4,11 @@ ghost use Rattle.page_build.specs.Jobs.{AreRefusedWith};
 ghost use Rattle.viz_tables.specs.Tables.{AreTaken, IsRefusedAt, IsTakenWith, refused_answer, refused_line};
 
 use crate::refusals::refused;
+use crate::rules::Rule;
 use crate::table::Table;
 use page_build::{JobRefusal, build_with};
 use std::alloc::Global;
 use viz_base::Mem;
-use viz_list::Rule;
 
 /// Whether the job file spells jobs under the formula of a rule.
 fn judge(alloc: Global, job: &[u8], rule: &Rule) -> Result<(), JobRefusal>

@@ -4,14 +4,16 @@ ghost use Rattle.page_build.specs.Jobs.{AreRefusedWith};
 ghost use Rattle.viz_tables.specs.Tables.{IsListed, IsPushed, IsReplyToTable, IsTableReply, end_of};
 ghost use Rattle.viz_tables.specs.Lines.{long_list_line};
 
+use crate::faults::ListFault;
 use crate::judging::first_refused;
 use crate::lines::{push_lines, some_open};
+use crate::lists::read_list;
 use crate::refusals::{broken_line, refused};
+use crate::rules::Rule;
 use crate::table::{Table, TableAnswer};
 use page_build::JobRefusal;
 use std::alloc::Global;
 use viz_base::Mem;
-use viz_list::{ListFault, Rule, read_list};
 use viz_replies::{JOB_MOST, long_job};
 use viz_survey::survey;
 

@@ -6,10 +6,10 @@ use Rattle.std.specs.List.{position}
 use Rattle.std.specs.Str.{IsUtf8, is_utf8}
 use Rattle.std.proofs.lemmas.Bool.{and_from, and_right, le-leb}
 use Rattle.std.proofs.lemmas.Str.{IsUtf8-from_is_utf8, is_utf8-from_IsUtf8}
-use Rattle.viz_list.specs.declared.rules.Rule.{Rule}
-use Rattle.viz_list.specs.declared.faults.ListFault.{ListFault}
-use Rattle.viz_list.specs.declared.faults.ListFault.TheVariants.{Form, Mem}
-use Rattle.viz_list.specs.Lists.{IsListOf, Reads, is_feed, is_formula, next_rule}
+use Rattle.viz_tables.specs.declared.rules.Rule.{Rule}
+use Rattle.viz_tables.specs.declared.faults.ListFault.{ListFault}
+use Rattle.viz_tables.specs.declared.faults.ListFault.TheVariants.{Form, Mem}
+use Rattle.viz_tables.specs.Lists.{IsListOf, Reads, is_feed, is_formula, next_rule}
 
 -- ---- formulas
 

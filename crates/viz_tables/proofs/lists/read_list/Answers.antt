@@ -1,8 +1,8 @@
 use Rattle.std.proofs.Common.{◌≡◌, ◌≢◌, ◌∙◌, ◌+◌, ℕ, Err, length, refl, rules, sym}
-use Rattle.viz_list.specs.declared.faults.ListFault.TheVariants.{Form, Mem}
-use Rattle.viz_list.specs.Lists.{IsListOf}
-use Rattle.viz_list.proofs.Readings.{left_behind, one_broken, one_more, read_by}
-use Rattle.viz_list.proofs.reading.read_list.Goals as goal
+use Rattle.viz_tables.specs.declared.faults.ListFault.TheVariants.{Form, Mem}
+use Rattle.viz_tables.specs.Lists.{IsListOf}
+use Rattle.viz_tables.proofs.Readings.{left_behind, one_broken, one_more, read_by}
+use Rattle.viz_tables.proofs.lists.read_list.Goals as goal
 
 pub returns-in-None : goal.returns-in-None
 returns-in-None c =

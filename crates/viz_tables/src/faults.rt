@@ -14,7 +14,7 @@ pub enum ListFault {
 
 impl From<Mem> for ListFault {
     ghost use Rattle.std.specs.Prelude.{◌≡◌};
-    ghost use Rattle.viz_list.specs.declared.faults.ListFault.TheVariants.{Mem};
+    ghost use Rattle.viz_tables.specs.declared.faults.ListFault.TheVariants.{Mem};
 
     ghost from_gives = { λ _ fault. fault ≡ Mem };
 
@@ -25,7 +25,7 @@ impl From<Mem> for ListFault {
 
 impl From<AllocError> for ListFault {
     ghost use Rattle.std.specs.Prelude.{◌≡◌};
-    ghost use Rattle.viz_list.specs.declared.faults.ListFault.TheVariants.{Mem};
+    ghost use Rattle.viz_tables.specs.declared.faults.ListFault.TheVariants.{Mem};
 
     ghost from_gives = { λ _ fault. fault ≡ Mem };
 

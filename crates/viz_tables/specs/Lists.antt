@@ -2,7 +2,7 @@
 use Rattle.std.specs.Prelude.{◌≡◌, ◌≢◌, ℕ, ◌+◌, ◌==◌, ◌&&◌, ◌||◌, nat_le, nat_lt, Bool, not, List, [], ◌∷◌, ◌++◌, length, take, drop, get_or, Option, Some, None, Result, Ok, Err, bytes_eq, if◌then◌else◌}
 use Rattle.std.specs.List.{list_any, position, prefix_len}
 use Rattle.std.specs.Str.{is_utf8}
-use Rattle.viz_list.specs.declared.rules.Rule.{Rule}
+use Rattle.viz_tables.specs.declared.rules.Rule.{Rule}
 
 -- ---- one line
 

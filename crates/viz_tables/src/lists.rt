@@ -1,10 +1,10 @@
 //! All rules of a list.
 ghost use Rattle.std.specs.Prelude.{◌≡◌, ◌≢◌, ◌++◌, [], ◌∷◌, ℕ, length, Some, None, MatchResult, Ok, Err};
-ghost use Rattle.viz_list.specs.Lists.{IsListOf, next_rule};
-ghost use Rattle.viz_list.specs.declared.rules.Rule.{Rule};
+ghost use Rattle.viz_tables.specs.Lists.{IsListOf, next_rule};
+ghost use Rattle.viz_tables.specs.declared.rules.Rule.{Rule};
 
 use crate::faults::ListFault;
-use crate::lines::{feed_at, next_rule};
+use crate::rule_lines::{feed_at, next_rule};
 use crate::rules::Rule;
 use std::alloc::Global;
 use viz_base::List;

@@ -1,7 +1,7 @@
 //! The rule of one line.
 ghost use Rattle.std.specs.Prelude.{◌≡◌, ◌≤◌, ◌<◌, ◌+◌, drop, length, Some, None, IfOk, IfSome, if◌then◌else◌};
 ghost use Rattle.std.specs.List.{position, prefix_len};
-ghost use Rattle.viz_list.specs.Lists.{fits, has_name, is_feed, is_formula, is_name_byte, is_named, next_rule, rule_in};
+ghost use Rattle.viz_tables.specs.Lists.{fits, has_name, is_feed, is_formula, is_name_byte, is_named, next_rule, rule_in};
 
 use crate::rules::Rule;
 use std::alloc::Global;

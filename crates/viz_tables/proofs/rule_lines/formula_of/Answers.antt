@@ -1,6 +1,6 @@
 use Rattle.std.proofs.Common.{◌≤◌, ◌∙◌, length, Some, None, ap, sym, arith, if◌then◌else◌}
-use Rattle.viz_list.proofs.Readings.{taken, untaken}
-use Rattle.viz_list.proofs.lines.formula_of.Goals as goal
+use Rattle.viz_tables.proofs.Readings.{taken, untaken}
+use Rattle.viz_tables.proofs.rule_lines.formula_of.Goals as goal
 
 pub returns-in_ok-from_text-in-Ok : goal.returns-in_ok-from_text-in-Ok
 returns-in_ok-from_text-in-Ok c =
