@@ -2,7 +2,7 @@ use crate::members::{long_at, number_at, text_at};
 use case_scribe::Fault;
 use serde_json::Value;
 use std::alloc::{AllocError, Global};
-use viz_base::List;
+use viz_base::{List, MOST_PIXELS, MOST_SIZE};
 use viz_replies::{
     Answer, Question, Reply, Screen, Sections, reply_to, reply_to_gen, reply_to_trial,
 };
@@ -47,7 +47,7 @@ fn height(case: &Value) -> Result<Option<u32>, Fault> {
 
 /// A screen, if pages can be laid out there.
 fn screen_of(w: u32, s: u32, h: Option<u32>) -> Result<Screen, Fault> {
-    if w <= 16384 && s <= 256 && h.unwrap_or(0) <= 16384 {
+    if w <= MOST_PIXELS && s <= MOST_SIZE && h.unwrap_or(0) <= MOST_PIXELS {
         Ok(Screen { w, s, h })
     } else {
         Err(Fault::NoCase)

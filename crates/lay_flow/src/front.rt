@@ -1,6 +1,7 @@
-ghost use Rattle.std.specs.Prelude.{◌≡◌, ◌≤◌, ◌^◌, Some, IsTrue, IfOk, IfErr, length, chars, sum_by};
+ghost use Rattle.std.specs.Prelude.{◌≡◌, ◌≤◌, ◌^◌, Some, IsTrue, IfOk, IfErr};
 ghost use Rattle.std.specs.List.{AllByRecursion};
-ghost use Rattle.viz_base.specs.declared.trees.BoxNode.{BoxNode};
+ghost use Rattle.viz_base.specs.declared.limits.TheConstants.{MOST_LAID_CHARACTERS, MOST_PIXELS, MOST_SIZE};
+ghost use Rattle.viz_base.specs.Trees.{character_count};
 ghost use Rattle.viz_calc.specs.World.{Reading};
 ghost use Rattle.viz_calc.specs.State.{Grows, AreOpen, CauseButMem, is_told};
 ghost use Rattle.viz_calc.specs.Renderings.{rendering_at};
@@ -40,10 +41,10 @@ pub fn render<C: Calc>(
 /// in size. Its only fault is `Mem`; no clause says when that comes.
 pub fn render_at(alloc: Global, world: World, tree: &BoxTree) -> Result<Rendering<i128>, Mem>
     requires small { IsSmallPage tree.now }
-    requires few_characters { sum_by (λ (b : BoxNode). length (chars b.chars)) tree.now.boxes ≤ 524288 }
-    requires narrow { world.w ≤ 16384 }
-    requires sized { world.s ≤ 256 }
-    requires low { world.h ≤ 16384 }
+    requires few_characters { character_count tree.now.boxes ≤ MOST_LAID_CHARACTERS }
+    requires narrow { world.w ≤ MOST_PIXELS }
+    requires sized { world.s ≤ MOST_SIZE }
+    requires low { world.h ≤ MOST_PIXELS }
     ensures value { IfOk result (λ r. r ≡ page_rendering tree.now world) }
     ensures low { IfOk result (λ r. AllByRecursion (IsPlacedIn (all_around (2 ^ 70))) r.boxes) }
 {

@@ -2,6 +2,7 @@
 ghost use Rattle.std.specs.Prelude.{◌≡◌, ◌≤◌, ◌*◌, length, slice_get, option_and_then, IsTrue, IfSome, option_map, [], ◌∷◌};
 ghost use Rattle.std.specs.Option.{option_map_or, option_copied};
 ghost use Rattle.std.specs.Str.{chars};
+ghost use Rattle.viz_base.specs.declared.limits.TheConstants.{MOST_CHARACTERS};
 ghost use Rattle.viz_base.specs.Styles.{is_good_size, is_good_line};
 ghost use Rattle.viz_base.specs.declared.lengths.Size.TheVariants as of_size;
 ghost use Rattle.viz_base.specs.declared.styles.Style.{Style as StyleOf};
@@ -148,7 +149,7 @@ pub fn descent<S: Steady>(calc: &mut S, tree: &BoxTree, node: u32) -> S::Num
 
 /// The width of a text as one word, in 1/64 px: the sum of its advances, and then the fraction.
 pub fn text_width<S: Steady>(calc: &mut S, tree: &BoxTree, node: u32, text: &str) -> S::Num
-    requires { length (chars text.now) ≤ 262144 }
+    requires { length (chars text.now) ≤ MOST_CHARACTERS }
     ensures { Lays S.run calc.old calc.new (S.at result) (λ e. text_width_of tree.now e.world node (chars text.now))
         (λ e. AllSmall (part_way tree.now e.world node (text_width_of tree.now e.world node (chars text.now)))) }
 {

@@ -6,6 +6,7 @@ ghost use Rattle.layout_semantics.specs.Fonts.{font_size as font_size_of, line_h
 ghost use Rattle.layout_semantics.specs.Fonts.{ascent as ascent_of, descent as descent_of, text_width as text_width_of};
 ghost use Rattle.layout_semantics.specs.Lengths.{used as used_length};
 ghost use Rattle.lay_length.specs.Ways.{size_way, part_way, line_way, used_way};
+ghost use Rattle.viz_base.specs.declared.limits.TheConstants.{MOST_CHARACTERS};
 
 use crate::{fonts, lengths};
 use viz_base::{BoxTree, Length};
@@ -92,7 +93,7 @@ pub fn text_width<C: Calc>(
     node: u32,
     text: &str,
 ) -> Result<C::Num, Halt>
-    requires { length (chars text.now) ≤ 262144 }
+    requires { length (chars text.now) ≤ MOST_CHARACTERS }
     ensures grows { Grows (C.state calc.old) (C.state calc.new) }
     ensures value { IfOk result (λ r. Stands (C.state calc.new) (C.at r)
         (λ e. text_width_of tree.now e.world node (chars text.now))) }

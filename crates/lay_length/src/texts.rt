@@ -1,6 +1,7 @@
 //! The characters of texts and their advances.
 ghost use Rattle.std.specs.Prelude.{◌≡◌, ◌≤◌, ◌*◌, ◌==◌, find, length, sum_by, option_map, [], MatchOption};
 ghost use Rattle.std.specs.Str.{chars};
+ghost use Rattle.viz_base.specs.declared.limits.TheConstants.{MOST_CHARACTERS};
 ghost use Rattle.viz_base.specs.FontSizes.{advance};
 ghost use Rattle.lay_length.specs.Texts.{IsSplit};
 
@@ -39,7 +40,7 @@ pub fn advance_of(font: &Font, letter: char) -> u32
 
 /// The sum of the advances of a text, in units of the font's em square.
 pub fn advances_of(font: &Font, text: &str) -> u64
-    requires { length (chars text.now) ≤ 262144 }
+    requires { length (chars text.now) ≤ MOST_CHARACTERS }
     ensures value { result ≡ sum_by (advance font.now) (chars text.now) }
     ensures most { result ≤ 65535 * length (chars text.now) }
 {

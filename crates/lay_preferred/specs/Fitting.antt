@@ -2,6 +2,7 @@
 -- coefficient past its limit where one of them passes it.
 use Rattle.std.specs.Prelude.{◌≤◌, ◌<◌, ℕ, ◌+◌, ◌*◌, ◌^◌, ℤ, pos, ◌+ℤ◌, unsigned_abs, Bool, IsTrue, List, [], ◌∷◌, length, map, sum, Option, Some, None}
 use Rattle.std.specs.List.{AllByRecursion}
+use Rattle.viz_base.specs.declared.limits.TheConstants.{MOST_BOXES}
 use Rattle.viz_base.specs.declared.layouts.Preferred.{Preferred}
 use Rattle.viz_base.specs.declared.lengths.Length.{Length}
 use Rattle.viz_base.specs.declared.lengths.Sides.{Sides}
@@ -174,7 +175,7 @@ pub record WholeTextFits (tree : BoxTree) (w : World) (most at : ℕ) : Type 0 w
 
 -- a tree of at most 16,384 boxes; the lengths of each are at most 2^41 units, and so is its text
 pub record AreSmallBoxes (tree : BoxTree) (is_open : Reading → Bool) : Type 0 where
-  pub few_boxes : length tree.boxes ≤ 16384
+  pub few_boxes : length tree.boxes ≤ MOST_BOXES
   pub lengths : (e : Reading) → IsTrue (is_open e) → (at : ℕ) → at < length tree.boxes
       → LengthsFit tree e.world (2 ^ 41) at
   pub texts : (e : Reading) → IsTrue (is_open e) → (at : ℕ) → at < length tree.boxes

@@ -1,7 +1,7 @@
 use case_scribe::{Fault, Scribe, count_of};
 use lay_length::{ascent, descent, font_size, line_height, text_width, used};
 use serde_json::Value;
-use viz_base::{BoxTree, Length};
+use viz_base::{BoxTree, Length, MOST_CHARACTERS};
 use viz_calc::{Halt, Plain};
 
 /// A length: its kind, and then its numbers.
@@ -51,7 +51,7 @@ pub fn tell_fonts(scribe: &mut Scribe, calc: &mut Plain, tree: &BoxTree, value: 
 pub fn tell_word(scribe: &mut Scribe, calc: &mut Plain, tree: &BoxTree, value: &Value) {
     let node = scribe.number_at(value, 0);
     let text = scribe.text_at(value, 1);
-    if count_of(text) <= 262_144 {
+    if count_of(text) <= MOST_CHARACTERS {
         tell(scribe, text_width(calc, tree, node, text));
     } else {
         scribe.fail(Fault::NoCase);

@@ -2,7 +2,7 @@ ghost use Rattle.std.specs.Prelude.{◌≡◌, ◌≢◌, ◌<◌, ◌≤◌, �
 ghost use Rattle.viz_base.specs.Pages.{has_tag, is_element_at, text_of};
 ghost use Rattle.viz_base.specs.declared.nodes.Node.{Node};
 ghost use Rattle.std.specs.Str.{chars};
-ghost use Rattle.viz_base.specs.Trees.{ascends, has_box, is_anon, is_chars, is_inline_level, is_leaf, is_replaced};
+ghost use Rattle.viz_base.specs.Trees.{ascends, has_box, is_anon, is_chars, is_inline_level, is_leaf, is_replaced, character_count};
 ghost use Rattle.viz_base.specs.declared.trees.BoxNode.{BoxNode};
 ghost use Rattle.layout_semantics.specs.Blocks.{parent_of};
 ghost use Rattle.layout_semantics.specs.Elements.{ancestors, is_closed, is_hidden, is_shown, node_passes};
@@ -87,7 +87,7 @@ pub fn each_shown_element_has_a_box(page: &Page, styles: &List<Style>, node: usi
 
 /// The texts of all boxes together have no more characters than the texts of the page.
 pub fn boxes_have_no_more_characters_than_the_page(page: &Page, styles: &List<Style>)
-    ensures { sum_by (λ (b : BoxNode). length (chars b.chars)) (page_boxes page.now.nodes styles.now)
+    ensures { character_count (page_boxes page.now.nodes styles.now)
         ≤ sum_by (λ (n : Node). length (chars (text_of n.body))) page.now.nodes }
 {}
 

@@ -2,6 +2,7 @@
 use Rattle.std.specs.Prelude.{ℕ, nat_lt, Bool, true, false, ◌&&◌, ◌==◌, List, [], ◌∷◌, map, length, flat_map, filter, Option, Some, option_map}
 use Rattle.std.specs.List.{list_any}
 use Rattle.std.specs.Option.{option_map_or}
+use Rattle.viz_base.specs.declared.limits.TheConstants.{MOST_BOXES}
 use Rattle.viz_base.specs.Trees.{is_inline}
 use Rattle.viz_base.specs.declared.fonts.Font.{Font}
 use Rattle.viz_base.specs.declared.nodes.Node.{Node}
@@ -44,7 +45,7 @@ first_refusal [] [] false far = option_map BoxRefusal.reach far
 
 abbrev pub refusal_of : List Part → List BoxNode → Option ℕ → Option BoxRefusal
 refusal_of parts boxes far =
-    first_refusal (blocks_in_inlines parts) (right_to_left_letters parts) (nat_lt 16384 (length boxes)) far
+    first_refusal (blocks_in_inlines parts) (right_to_left_letters parts) (nat_lt MOST_BOXES (length boxes)) far
 
 -- why a page with these styles and fonts gets no box tree, if it gets none
 abbrev pub page_refusal : List Node → List Style → List Font → Option BoxRefusal

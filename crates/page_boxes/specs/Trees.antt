@@ -1,5 +1,6 @@
 -- What `build_boxes` gives, and which refusal a fault names.
 use Rattle.std.specs.Prelude.{◌≡◌, ℕ, nat_lt, length, Bool, true, false, List, [], Option, Some, None, Result, Ok, Err}
+use Rattle.viz_base.specs.declared.limits.TheConstants.{MOST_BOXES}
 use Rattle.viz_base.specs.Answers.{FailsWith}
 use Rattle.viz_base.specs.declared.fonts.Font.{Font}
 use Rattle.viz_base.specs.declared.nodes.Node.{Node}
@@ -58,15 +59,15 @@ IsJudged blocks letters (Err fault) =
 
 -- these are the boxes, and there are not too many, or there are
 abbrev pub HasFewBoxes : List BoxNode → Result (List BoxNode) BoxFault → Type 0
-HasFewBoxes boxes (Ok found) = (found ≡ boxes) × (nat_lt 16384 (length boxes) ≡ false)
+HasFewBoxes boxes (Ok found) = (found ≡ boxes) × (nat_lt MOST_BOXES (length boxes) ≡ false)
 HasFewBoxes boxes (Err fault) =
     IfNamed (refusal_named fault)
-    (λ refusal. (refusal ≡ BoxRefusal.too_many_boxes) × (nat_lt 16384 (length boxes) ≡ true))
+    (λ refusal. (refusal ≡ BoxRefusal.too_many_boxes) × (nat_lt MOST_BOXES (length boxes) ≡ true))
 
 -- these are the boxes, and nothing but its reach can refuse the page
 pub record IsAllowed (nodes : List Node) (styles : List Style) (found : List BoxNode) : Type 0 where
   pub boxes : found ≡ page_boxes nodes styles
-  pub few : nat_lt 16384 (length (page_boxes nodes styles)) ≡ false
+  pub few : nat_lt MOST_BOXES (length (page_boxes nodes styles)) ≡ false
   pub no_blocks : blocks_in_inlines (page_parts nodes styles) ≡ []
   pub no_letters : right_to_left_letters (page_parts nodes styles) ≡ []
 

@@ -20,10 +20,9 @@ use crate::refusals::{block_in_inline, right_to_left};
 use crate::spaces::collapsed;
 use crate::styles::tree_styles;
 use std::alloc::Global;
-use viz_base::{BoxNode, BoxTree, Font, List, Mem, Page, Style};
+use viz_base::{BoxNode, BoxTree, Font, List, MOST_BOXES, Mem, Page, Style};
 
 /// The most boxes of a page.
-const MOST_BOXES: usize = 16_384;
 
 /// The boxes of the nodes of a page, with the characters that stay of texts.
 fn parts_of(alloc: Global, page: &Page, styles: &List<Style>) -> Result<Vec<Part>, Mem>

@@ -5,7 +5,7 @@ ghost use Rattle.page_boxes.specs.steps.Extents.{capped, most, part_of, size_in,
 
 use crate::tables::held;
 use std::alloc::{AllocError, Global};
-use viz_base::{Size, Style, floor_div};
+use viz_base::{MOST_SIZE, Size, Style, floor_div};
 
 /// The most units that a page may reach.
 pub const MOST: u64 = 1 << 40;
@@ -13,8 +13,8 @@ pub const MOST: u64 = 1 << 40;
 /// Stands for each number past it.
 const PAST: u64 = MOST + 1;
 
-/// 256 px, in units of 1/64 px.
-const DEFAULT: u64 = 16_384;
+/// The greatest default font size, in units of 1/64 px.
+const DEFAULT: u64 = MOST_SIZE as u64 * 64;
 
 /// The number, or `PAST` where it is past the most.
 pub fn capped(number: u128) -> u64

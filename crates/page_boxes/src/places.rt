@@ -2,6 +2,7 @@
 ghost use Rattle.std.specs.Prelude.{◌≡◌, ◌≤◌, ◌<◌, ◌+◌, ◌^◌, ◌++◌, ◌∷◌, [], map, length, replicate, slice_set, slice_index_or, IfOk, OnOk, None, if◌then◌else◌, encode_utf8_all};
 ghost use Rattle.page_boxes.specs.Seen.{seen, all_seen};
 ghost use Rattle.page_boxes.specs.steps.Places.{with_kid, with_kid_at, with_kid_in, with_box, with_all, bare_anonymous, bare_own, place_around, begins, own_place_at, outer_in, bare_begun, bare_boxes, places_walk, count_walk};
+ghost use Rattle.viz_base.specs.declared.limits.TheConstants.{MOST_BOXES};
 
 use crate::parts::{Level, Part};
 use crate::tables::held;
@@ -209,7 +210,7 @@ pub fn boxes_of(
     leads: &[Option<u32>],
     nodes: usize,
 ) -> Result<List<BoxNode>, Mem>
-    requires { count_walk leads.now 0 (all_seen parts.now) ≤ 16384 }
+    requires { count_walk leads.now 0 (all_seen parts.now) ≤ MOST_BOXES }
     ensures { IfOk result (λ boxes. boxes ≡ with_all [] (places_walk (replicate nodes 0) 0 leads.now 0
         (all_seen parts.now))) }
 {

@@ -1,5 +1,6 @@
 //! The formula of a job's assertion.
 ghost use Rattle.std.specs.Prelude.{◌≡◌, ◌≢◌, ◌≤◌, length, true, IfOk, MatchResult};
+ghost use Rattle.viz_base.specs.declared.limits.TheConstants.{MOST_FORMULA};
 ghost use Rattle.viz_base.specs.Formulas.{has_small_terms, is_bound_in};
 ghost use Rattle.vis_read.specs.Texts.{IsFault, IsFormulaText};
 ghost use Rattle.vis_read.specs.declared.faults.FormulaFault.{FormulaFault};
@@ -14,7 +15,7 @@ use viz_base::{Formula, Page};
 
 /// The formula that the text of an assertion spells, of a page.
 pub(crate) fn written(alloc: Global, text: &str, page: &Page) -> Result<Formula, JobRefusal>
-    requires { length text.now ≤ 16384 }
+    requires { length text.now ≤ MOST_FORMULA }
     ensures given { MatchResult result (IsFormulaText page.now.nodes text.now)
         (λ refusal. refusal ≢ JobRefusal.Mem
         → (fault : FormulaFault) × IsFault page.now.nodes text.now fault × (refusal ≡ of_formula fault)) }
@@ -31,7 +32,7 @@ pub(crate) fn formula_of(
     page: &Page,
     from: &[Option<u32>],
 ) -> Result<Formula, JobRefusal>
-    requires { length text.now ≤ 16384 }
+    requires { length text.now ≤ MOST_FORMULA }
     ensures given { MatchResult result (HasAssertion page.now.nodes text.now from.now)
         (λ refusal. refusal ≢ JobRefusal.Mem
         → (fault : FormulaFault) × IsFault page.now.nodes text.now fault × (refusal ≡ of_formula fault)) }

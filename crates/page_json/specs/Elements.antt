@@ -4,6 +4,7 @@ use Rattle.std.specs.List.{list_any}
 use Rattle.std.specs.Option.{option_map_or}
 use Rattle.serde_json.specs.Data.{Data}
 use Rattle.serde_json.specs.Find.{get, as_str}
+use Rattle.viz_base.specs.declared.limits.TheConstants.{MOST_PIXELS}
 use Rattle.viz_base.specs.declared.nodes.Attr.{Attr}
 use Rattle.viz_base.specs.declared.nodes.Body.{Body}
 use Rattle.viz_base.specs.declared.nodes.Body.TheVariants as of_body
@@ -43,7 +44,7 @@ attrs_of d = option_map_or attrs_in (get (codes "attrs") d) (Some [])
 
 -- intrinsic sizes in pixels
 abbrev pub size_in : ℕ × ℕ → Option (Option (ℕ × ℕ))
-size_in p = if nat_le p.0 16384 && nat_le p.1 16384 then Some (Some p) else None
+size_in p = if nat_le p.0 MOST_PIXELS && nat_le p.1 MOST_PIXELS then Some (Some p) else None
 
 abbrev pub size_of : Data → Option (Option (ℕ × ℕ))
 size_of d = option_map_or (λ m. option_and_then size_in (pair_of m)) (get (codes "size") d) (Some None)

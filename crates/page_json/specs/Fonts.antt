@@ -3,6 +3,7 @@ use Rattle.std.specs.Prelude.{ℕ, ◌+◌, Bool, true, ◌&&◌, nat_le, List, 
 use Rattle.std.proofs.Math.Utf8.{scalar}
 use Rattle.serde_json.specs.Data.{Data}
 use Rattle.serde_json.specs.Find.{as_str}
+use Rattle.viz_base.specs.declared.limits.TheConstants.{MOST_EM}
 use Rattle.viz_base.specs.declared.fonts.Font.{Font}
 use Rattle.page_json.specs.Values.{whole_in, pair_of, list_at, all_of, ◌of_member◌}
 
@@ -55,4 +56,4 @@ font_of d =
     option_and_then (λ other. option_map (λ advances.
     record { name = name; upem = upem; ascent = ascent; descent = descent; other = other; advances = advances })
     (advances_of d)) (units_at (codes "default") d)) (units_at (codes "descent") d)) (units_at (codes "ascent") d))
-    ((whole_in 1 16384 of_member codes "upem") d)) ((as_str of_member codes "name") d)
+    ((whole_in 1 MOST_EM of_member codes "upem") d)) ((as_str of_member codes "name") d)

@@ -4,6 +4,7 @@ use Rattle.std.specs.Str.{chars, is_utf8}
 use Rattle.serde_json.specs.Data.{Data}
 use Rattle.serde_json.specs.Find.{get, as_str}
 use Rattle.serde_json.specs.Read.{read}
+use Rattle.viz_base.specs.declared.limits.TheConstants.{MOST_CHARACTERS, MOST_FORMULA, MOST_PIXELS, MOST_SIZE}
 use Rattle.viz_base.specs.declared.nodes.Attr.{Attr}
 use Rattle.viz_base.specs.declared.nodes.Body.{Body}
 use Rattle.viz_base.specs.declared.nodes.Body.TheVariants as of_body
@@ -130,11 +131,11 @@ abbrev pub limited : Parts → Result Parts JobFault
 limited p =
     within which.Elements 4096 (elements p.nodes) >>= λ _.
     within which.Depth 60 p.depth >>= λ _.
-    within which.Text 262144 (characters p.nodes) >>= λ _.
+    within which.Text MOST_CHARACTERS (characters p.nodes) >>= λ _.
     within which.Css 1048576 (sheet_bytes p.css p.nodes) >>= λ _.
     within which.Fonts 64 (length p.fonts) >>= λ _.
     within which.Advances 65536 (advances p.fonts) >>= λ _.
-    within which.Formula 16384 (length p.formula) >>= λ _.
+    within which.Formula MOST_FORMULA (length p.formula) >>= λ _.
     Ok p
 
 -- ---- ranges
@@ -156,7 +157,7 @@ rect_of p = record {
 
 -- the three ranges are within their limits
 abbrev pub are_ranges : Parts → Bool
-are_ranges p = are_ends 16384 p.widths && (are_ends 256 p.sizes && are_ends 16384 p.heights)
+are_ranges p = are_ends MOST_PIXELS p.widths && (are_ends MOST_SIZE p.sizes && are_ends MOST_PIXELS p.heights)
 
 -- and there are not too many worlds
 abbrev pub in_range : Parts → Bool
@@ -231,5 +232,5 @@ pub record IsWithinLimits (job : Raw) : Type 0 where
   pub formed : IsFormed job.form job.range
   pub in_range : IsRange job.range
   pub has_font : 1 ≤ length job.fonts
-  pub few_characters : characters job.nodes ≤ 262144
-  pub short_formula : length job.formula ≤ 16384
+  pub few_characters : characters job.nodes ≤ MOST_CHARACTERS
+  pub short_formula : length job.formula ≤ MOST_FORMULA

@@ -6,6 +6,7 @@ use Rattle.serde_json.specs.View.{view}
 use Rattle.page_json.specs.declared.places.Place.{Place}
 use Rattle.page_json.specs.declared.jobs.Nodes.{Nodes}
 use Rattle.page_json.specs.declared.jobs.Parts.{Parts}
+use Rattle.viz_base.specs.declared.limits.TheConstants.{MOST_CHARACTERS, MOST_FORMULA}
 use Rattle.viz_base.specs.declared.fonts.Font.{Font}
 use Rattle.viz_base.specs.declared.nodes.Node.{Node}
 use Rattle.page_json.specs.Fonts.{Measures, measures_of}
@@ -51,8 +52,8 @@ pub record AreWithinLimits (p : Parts) : Type 0 where
   pub formed : IsFormOf p.form p.heights
   pub page : IsPage p.page.nodes
   pub has_font : 1 ≤ length p.fonts
-  pub few_characters : jobs.characters p.page.nodes ≤ 262144
-  pub short_formula : length p.formula.now ≤ 16384
+  pub few_characters : jobs.characters p.page.nodes ≤ MOST_CHARACTERS
+  pub short_formula : length p.formula.now ≤ MOST_FORMULA
 
 -- `parts_under` once the numbers are read
 abbrev pub lists_under : Option (List ℕ) → ℕ → ℕ × ℕ → ℕ × ℕ → ℕ × ℕ → Data → Result jobs.Parts JobFault
@@ -79,5 +80,5 @@ lists_limited p =
     within which.Css 1048576 (jobs.sheet_bytes p.css p.nodes) >>= λ _.
     within which.Fonts 64 (length p.fonts) >>= λ _.
     within which.Advances 65536 (jobs.advances p.fonts) >>= λ _.
-    within which.Formula 16384 (length p.formula) >>= λ _.
+    within which.Formula MOST_FORMULA (length p.formula) >>= λ _.
     Ok p

@@ -9,7 +9,7 @@ use crate::values::{list_at, pair_of, text_at};
 use serde_json::{Map, Value};
 use std::alloc::{AllocError, Global};
 use std::collections::HashSet;
-use viz_base::{Attr, Body, Element, List, Text};
+use viz_base::{Attr, Body, Element, List, MOST_PIXELS, Text};
 
 /// The text in ASCII lower case.
 fn lower(alloc: Global, text: &str) -> Result<Text, AllocError>
@@ -89,7 +89,7 @@ fn attrs_of(alloc: Global, value: &Value) -> Result<Option<List<Attr>>, AllocErr
 fn size_in(width: u64, height: u64) -> Option<Option<(u32, u32)>>
     ensures { result ≡ size_in (width, height) }
 {
-    if width <= 16384 && height <= 16384 {
+    if width <= u64::from(MOST_PIXELS) && height <= u64::from(MOST_PIXELS) {
         Some(Some((width as u32, height as u32)))
     } else {
         None

@@ -7,7 +7,7 @@ ghost use Rattle.page_json.specs.Fonts.{advance_in, advance_of, advances_of, cod
 use crate::values::{list_at, pair_of, text_at, whole_in};
 use serde_json::Value;
 use std::alloc::{AllocError, Global};
-use viz_base::{Font, List, Text};
+use viz_base::{Font, List, MOST_EM, Text};
 
 /// A character and its advance.
 fn advance_in(code: u64, advance: u64) -> Option<(char, u32)>
@@ -84,7 +84,7 @@ pub(crate) fn font_of(alloc: Global, value: &Value) -> Result<Option<Font>, Allo
     let Some(name) = text_at(value, "name") else {
         return Ok(None);
     };
-    let Some(upem) = whole_in(value, "upem", 1, 16384) else {
+    let Some(upem) = whole_in(value, "upem", 1, MOST_EM) else {
         return Ok(None);
     };
     let Some(ascent) = whole_in(value, "ascent", 0, 65535) else {

@@ -11,7 +11,10 @@ ghost use Rattle.page_json.specs.Seen.{lists_limited, parts_seen};
 
 use crate::JobFault;
 use crate::jobs::Parts;
-use viz_base::{Attr, Body, Font, List, Node, Text, Which};
+use viz_base::{
+    Attr, Body, Font, List, MOST_CHARACTERS, MOST_FORMULA, MOST_PIXELS, MOST_SIZE, Node, Text,
+    Which,
+};
 
 /// The sum, where memory could hold so much.
 fn plus(total: u64, more: u64) -> Result<u64, JobFault>
@@ -116,27 +119,37 @@ fn within(which: Which, most: u64, count: u64) -> Result<u64, JobFault>
 /// Refuses the first count of sheets, fonts and the formula that is beyond its limit.
 fn lists_limited(parts: &Parts<'_>) -> Result<u64, JobFault>
     ensures gives { Gives (λ _. parts_seen parts.now) refusal_of result (lists_limited (parts_seen parts.now)) }
-    ensures short_formula { OnOk result (length parts.now.formula.now ≤ 16384) }
+    ensures short_formula { OnOk result (length parts.now.formula.now ≤ MOST_FORMULA) }
 {
     let bytes = sheet_bytes(parts.css.as_slice(), parts.page.nodes.as_slice())?;
     within(Which::Css, 1_048_576, bytes)?;
     within(Which::Fonts, 64, parts.fonts.len() as u64)?;
     within(Which::Advances, 65_536, advances(parts.fonts.as_slice())?)?;
-    within(Which::Formula, 16_384, parts.formula.len() as u64)
+    within(
+        Which::Formula,
+        MOST_FORMULA as u64,
+        parts.formula.len() as u64,
+    )
 }
 
 /// Refuses the first count that is beyond its limit.
 pub(crate) fn limited(parts: &Parts<'_>) -> Result<u64, JobFault>
     ensures gives { Gives (λ _. parts_seen parts.now) refusal_of result (limited (parts_seen parts.now)) }
-    ensures few_characters { OnOk result (characters parts.now.page.nodes ≤ 262144) }
-    ensures short_formula { OnOk result (length parts.now.formula.now ≤ 16384) }
+    ensures few_characters { OnOk result (characters parts.now.page.nodes ≤ MOST_CHARACTERS) }
+    ensures short_formula { OnOk result (length parts.now.formula.now ≤ MOST_FORMULA) }
 {
     let nodes = parts.page.nodes.as_slice();
     within(Which::Elements, 4096, elements(nodes))?;
     within(Which::Depth, 60, parts.page.depth)?;
-    within(Which::Text, 262_144, characters(nodes)?)?;
+    within(Which::Text, MOST_CHARACTERS as u64, characters(nodes)?)?;
     lists_limited(parts)
 }
+
+/// The greatest width and height that a range may have.
+const WIDEST: u64 = MOST_PIXELS as u64;
+
+/// The greatest default font size that it may have.
+const LARGEST: u64 = MOST_SIZE as u64;
 
 /// Whether it goes from 1 or more to `most` or less, the first no greater than the second.
 fn are_ends(most: u64, ends: (u64, u64)) -> bool
@@ -150,13 +163,15 @@ fn are_ends(most: u64, ends: (u64, u64)) -> bool
 fn are_ranges(parts: &Parts<'_>) -> bool
     ensures { result ≡ are_ranges (parts_seen parts.now) }
 {
-    are_ends(16384, parts.widths) && are_ends(256, parts.sizes) && are_ends(16384, parts.heights)
+    are_ends(WIDEST, parts.widths)
+        && are_ends(LARGEST, parts.sizes)
+        && are_ends(WIDEST, parts.heights)
 }
 
 /// How many numbers there are from one end to the other.
 fn count_of(most: u64, ends: (u64, u64)) -> u64
     requires least { IsTrue (are_ends most ends) }
-    requires most { most ≤ 16384 }
+    requires most { most ≤ MOST_PIXELS }
     ensures count { result ≡ ends.1 + 1 - ends.0 }
     ensures most { result ≤ most }
 {
@@ -169,9 +184,9 @@ fn world_count(parts: &Parts<'_>) -> u64
     requires { IsTrue (are_ranges (parts_seen parts.now)) }
     ensures { result ≡ world_count (rect_of (parts_seen parts.now)) }
 {
-    let widths = count_of(16384, parts.widths);
-    let sizes = count_of(256, parts.sizes);
-    let heights = count_of(16384, parts.heights);
+    let widths = count_of(WIDEST, parts.widths);
+    let sizes = count_of(LARGEST, parts.sizes);
+    let heights = count_of(WIDEST, parts.heights);
     widths * sizes * heights
 }
 

@@ -1,6 +1,7 @@
 -- How many characters are generated on a page, and where they are too many: our own limit.
 use Rattle.std.specs.Prelude.{ℕ, suc, ◌+◌, ◌<◌, ◌≤◌, List, [], ◌∷◌, length, take, Option, Some, None}
 use Rattle.std.specs.Str.{chars}
+use Rattle.viz_base.specs.declared.limits.TheConstants.{MOST_CHARACTERS}
 use Rattle.viz_base.specs.declared.nodes.Body.{Body}
 use Rattle.viz_base.specs.declared.nodes.Node.{Node}
 use Rattle.page_pseudo.specs.Generated.{generated}
@@ -23,10 +24,10 @@ abbrev pub made_before : Written → ℕ → ℕ
 made_before w n = made_from w 0 (take n w.nodes)
 
 abbrev pub IsWithin : Written → Type 0
-IsWithin w = made_before w (length w.nodes) ≤ 262144
+IsWithin w = made_before w (length w.nodes) ≤ MOST_CHARACTERS
 
 -- the node with which they become too many
 pub record IsTooMuch (w : Written) (n : ℕ) : Type 0 where
   pub is_node : n < length w.nodes
-  pub enough : made_before w n ≤ 262144
-  pub too_much : 262144 < made_before w (suc n)
+  pub enough : made_before w n ≤ MOST_CHARACTERS
+  pub too_much : MOST_CHARACTERS < made_before w (suc n)

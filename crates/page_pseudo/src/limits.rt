@@ -7,10 +7,7 @@ use crate::fault::GrowFault;
 use crate::numbers::number;
 use crate::seeds::{Seeds, winners_at};
 use crate::texts::{count, generated};
-use viz_base::Body;
-
-/// How many characters may be generated on a page.
-const MOST: usize = 262_144;
+use viz_base::{Body, MOST_CHARACTERS};
 
 /// The room that is left behind the generated content of a node; none where it is too much.
 fn left_behind(room: usize, seeds: Seeds<'_>, at: usize, body: &Body) -> Option<usize>
@@ -27,7 +24,7 @@ pub fn check_room(seeds: Seeds<'_>) -> Result<(), GrowFault>
     ensures { MatchResult result (λ _. IsWithin (written seeds.entry))
         (λ fault. IfSome (refusal_of fault) (IsTooMuch (written seeds.entry))) }
 {
-    let mut room = MOST;
+    let mut room = MOST_CHARACTERS;
     let nodes = seeds.page.nodes.as_slice();
     for at in 0..nodes.len() {
         match left_behind(room, seeds, at, &nodes[at].body) {

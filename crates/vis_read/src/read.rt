@@ -1,4 +1,5 @@
 ghost use Rattle.std.specs.Prelude.{◌≡◌, ◌≤◌, length, true, IfOk, MatchResult};
+ghost use Rattle.viz_base.specs.declared.limits.TheConstants.{MOST_FORMULA};
 ghost use Rattle.viz_base.specs.Formulas.{has_small_terms, is_bound_in};
 ghost use Rattle.vis_read.specs.Texts.{IsFault, IsFormulaText};
 ghost use Rattle.vis_read.specs.steps.Machine.{ended, formula_read, initial};
@@ -69,7 +70,7 @@ fn read_tokens(alloc: Global, tokens: List<Token>, end: u32) -> Result<Formula, 
 pub fn read_formula(alloc: Global, text: &str, page: &Page) -> Result<Formula, FormulaFault>
     ensures answer { MatchResult result (IsFormulaText page.now.nodes text.now) (IsFault page.now.nodes text.now) }
     ensures bound { IfOk result (λ f. is_bound_in f 0 ≡ true) }
-    ensures small { length text.now ≤ 16384 → IfOk result (λ f. has_small_terms f ≡ true) }
+    ensures small { length text.now ≤ MOST_FORMULA → IfOk result (λ f. has_small_terms f ≡ true) }
 {
     let end = place(text.len())?;
     let tokens = tokens(alloc, text, page)?;

@@ -1,5 +1,6 @@
-use Rattle.std.specs.Prelude.{◌≡◌, ℕ, ◌≤◌, sum_by, List, length, Option, None, IsTrue}
-use Rattle.std.specs.Str.{chars}
+use Rattle.std.specs.Prelude.{◌≡◌, ℕ, ◌≤◌, List, length, Option, None, IsTrue}
+use Rattle.viz_base.specs.declared.limits.TheConstants.{MOST_BOXES, MOST_LAID_CHARACTERS, MOST_PIXELS, MOST_SIZE}
+use Rattle.viz_base.specs.Trees.{character_count}
 use Rattle.viz_base.specs.declared.worlds.Rect.{Rect}
 use Rattle.viz_base.specs.declared.fonts.Font.{Font}
 use Rattle.viz_base.specs.declared.styles.Style.{Style}
@@ -13,13 +14,13 @@ use Rattle.viz_base.specs.Reaches.{beyond_reach}
 pub record IsRange (range : Rect) : Type 0 where
   pub width_least : 1 ≤ range.wl
   pub widths : range.wl ≤ range.wh
-  pub width_most : range.wh ≤ 16384
+  pub width_most : range.wh ≤ MOST_PIXELS
   pub size_least : 1 ≤ range.sl
   pub sizes : range.sl ≤ range.sh
-  pub size_most : range.sh ≤ 256
+  pub size_most : range.sh ≤ MOST_SIZE
   pub height_least : 1 ≤ range.hl
   pub heights : range.hl ≤ range.hh
-  pub height_most : range.hh ≤ 16384
+  pub height_most : range.hh ≤ MOST_PIXELS
   pub worlds : world_count range ≤ 4194304
 
 -- a job is of form 1, with one height of the viewport, or of form 2, with a range of heights
@@ -34,8 +35,8 @@ pub record IsJob (form : ℕ) (range : Rect) (boxes : List BoxNode) (styles : Li
     (formula : Formula) : Type 0 where
   pub formed : IsFormed form range
   pub in_range : IsRange range
-  pub few_boxes : length boxes ≤ 16384
-  pub few_characters : sum_by (λ (b : BoxNode). length (chars b.chars)) boxes ≤ 524288
+  pub few_boxes : length boxes ≤ MOST_BOXES
+  pub few_characters : character_count boxes ≤ MOST_LAID_CHARACTERS
   -- no box reaches further than 2^40 units
   pub reach : beyond_reach styles parents fonts boxes ≡ None
   pub bound : IsTrue (is_bound_in formula 0)

@@ -4,6 +4,7 @@ use Rattle.std.specs.Char.{to_ascii_lowercase}
 use Rattle.std.specs.List.{list_all}
 use Rattle.std.specs.Option.{option_map_or}
 use Rattle.std.specs.Str.{chars}
+use Rattle.viz_base.specs.declared.limits.TheConstants.{MOST_CHARACTERS}
 use Rattle.viz_base.specs.Orders.{IsInOrder}
 use Rattle.viz_base.specs.declared.nodes.Attr.{Attr}
 use Rattle.viz_base.specs.declared.nodes.Body.{Body}
@@ -44,7 +45,7 @@ pub record IsPage (nodes : List Node) : Type 0 where
   pub root : IsTrue (is_element_at nodes 0)
   pub parents : (at : ℕ) (n : Node) → slice_get nodes at ≡ Some n → IsTrue (parent_fits nodes at n.parent)
   pub in_order : IsInOrder (map (λ (n : Node). n.parent) nodes)
-  pub texts : (at : ℕ) (n : Node) → slice_get nodes at ≡ Some n → length (chars (text_of n.body)) ≤ 262144
+  pub texts : (at : ℕ) (n : Node) → slice_get nodes at ≡ Some n → length (chars (text_of n.body)) ≤ MOST_CHARACTERS
   pub names : (at : ℕ) (n : Node) → slice_get nodes at ≡ Some n → IsTrue (has_lower_names n.body)
 
 -- ---- elements

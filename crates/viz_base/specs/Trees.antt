@@ -1,7 +1,8 @@
-use Rattle.std.specs.Prelude.{◌≡◌, ℕ, ◌<◌, ◌≤◌, Bool, true, false, not, nat_lt, ◌==◌, ◌&&◌, ◌||◌, List, [], ◌∷◌, ◌++◌, length, map, slice_get, Option, Some, None, is_some, IsTrue}
+use Rattle.std.specs.Prelude.{◌≡◌, ℕ, ◌<◌, ◌≤◌, Bool, true, false, not, nat_lt, ◌==◌, ◌&&◌, ◌||◌, List, [], ◌∷◌, ◌++◌, length, map, slice_get, sum_by, Option, Some, None, is_some, IsTrue}
 use Rattle.std.specs.List.{list_all, list_any}
 use Rattle.std.specs.Option.{option_map_or}
 use Rattle.std.specs.Str.{chars}
+use Rattle.viz_base.specs.declared.limits.TheConstants.{MOST_CHARACTERS}
 use Rattle.viz_base.specs.Orders.{IsInOrder}
 use Rattle.viz_base.specs.Reaches.{is_of_element}
 use Rattle.viz_base.specs.Styles.{sides_of}
@@ -187,13 +188,17 @@ pub record AreAlikeButSize (a b : Style) : Type 0 where
 
 -- ---- trees
 
+-- how many characters the texts of boxes have together
+abbrev pub character_count : List BoxNode → ℕ
+character_count = sum_by (λ (b : BoxNode). length (chars b.chars))
+
 -- a box at its place among the boxes of a tree
 pub record IsBoxAt (boxes : List BoxNode) (nodes : ℕ) (styles : List Style) (at : ℕ) (b : BoxNode) : Type 0 where
   pub node : b.node < nodes
   pub no_line : is_line b.kind ≡ false
   pub size : is_some b.size ≡ is_replaced b.kind
   pub leaf : IsTrue (not (is_leaf b.kind) || (length b.kids == 0))
-  pub characters : length (chars b.chars) ≤ 262144
+  pub characters : length (chars b.chars) ≤ MOST_CHARACTERS
   pub ascending : IsTrue (ascends at b.kids)
   pub named : IsTrue (list_all (box_passes (is_kid_of at) boxes) b.kids)
   pub one_sort : IsTrue (holds_one_sort styles boxes b)

@@ -9,6 +9,7 @@ mod groups;
 mod jobs;
 mod layouts;
 mod lengths;
+mod limits;
 mod lists;
 mod memory;
 mod nodes;
@@ -35,6 +36,10 @@ pub use layouts::{
     Band, Entry, Extent, Inner, Lead, LeadEnd, Lines, Preferred, Spot, Waiting, Widths,
 };
 pub use lengths::{Length, LineHeight, Sides, Size, Valign};
+pub use limits::{
+    MOST_BOXES, MOST_CHARACTERS, MOST_EM, MOST_FORMULA, MOST_LAID_CHARACTERS, MOST_PIXELS,
+    MOST_SIZE,
+};
 pub use lists::{List, Text8};
 pub use memory::Mem;
 pub use nodes::{Attr, Body, Element, Node};

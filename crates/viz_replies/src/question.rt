@@ -1,5 +1,6 @@
 ghost use Rattle.std.specs.Prelude.{◌≡◌, ◌≤◌, ◌<◌, MatchOption, IfSome};
 ghost use Rattle.std.proofs.Props.{props};
+ghost use Rattle.viz_base.specs.declared.limits.TheConstants.{MOST_PIXELS, MOST_SIZE};
 ghost use Rattle.page_gen.specs.Jobs.{sections_most};
 
 use page_gen::SECTIONS_MOST;
@@ -14,9 +15,9 @@ pub struct Screen {
     pub s: u32,
     /// The viewport's height; None for the least of the job's range.
     pub h: Option<u32>,
-    ghost narrow: { w ≤ 16384 },
-    ghost sized: { s ≤ 256 },
-    ghost low: { IfSome h (λ h. h ≤ 16384) } by { Prim.hlevel props },
+    ghost narrow: { w ≤ MOST_PIXELS },
+    ghost sized: { s ≤ MOST_SIZE },
+    ghost low: { IfSome h (λ h. h ≤ MOST_PIXELS) } by { Prim.hlevel props },
 }
 
 impl Screen {

@@ -4,6 +4,7 @@ ghost use Rattle.lay_print.specs.Print.{printed};
 ghost use Rattle.vis_truth.specs.Scenes.{IsBoundedRendering};
 ghost use Rattle.viz_replies.specs.Replies.{violation_text};
 ghost use Rattle.viz_replies.specs.steps.Violations.{blame_lines_of, violation_lines_of};
+ghost use Rattle.viz_base.specs.declared.limits.TheConstants.{MOST_PIXELS, MOST_SIZE};
 
 use crate::lines::{push_blamed, push_world};
 use crate::reply::{Answer, Reply};
@@ -78,9 +79,9 @@ fn violation_by(
 
 /// A world at which the formula is false.
 pub fn violation(alloc: Global, job: &Job, world: World) -> Result<Reply, Mem>
-    requires narrow { world.w ≤ 16384 }
-    requires sized { world.s ≤ 256 }
-    requires low { world.h ≤ 16384 }
+    requires narrow { world.w ≤ MOST_PIXELS }
+    requires sized { world.s ≤ MOST_SIZE }
+    requires low { world.h ≤ MOST_PIXELS }
     ensures { IfOk result (λ r. (r.answer ≡ Answer.Violated) × (r.output.items ≡ violation_text job.now world)) }
 {
     let rendering = render_at(alloc, world, &job.tree)?;

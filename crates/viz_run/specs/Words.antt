@@ -4,6 +4,7 @@ use Rattle.page_gen.specs.Jobs.{sections_most}
 use Rattle.viz_replies.specs.declared.question.Screen.{Screen}
 use Rattle.viz_run.specs.declared.words.Command.{Command}
 use Rattle.viz_run.specs.declared.words.Command.TheVariants as asks_for
+use Rattle.viz_base.specs.declared.limits.TheConstants.{MOST_PIXELS}
 
 -- a height's word, where it is named
 abbrev pub height_words : Option ℕ → List (List ℕ)
@@ -22,11 +23,11 @@ spelled (asks_for.Trial seed sections turns) = codes "trial" ∷ decimal seed �
 -- a width from 1 to 16,384 pixels, a default font size from 1 to 256, and a height from 1 to 16,384 where one is named
 pub record IsScreen (screen : Screen) : Type 0 where
   pub width_least : 1 ≤ screen.w
-  pub width_most : screen.w ≤ 16384
+  pub width_most : screen.w ≤ MOST_PIXELS
   pub size_least : 1 ≤ screen.s
   pub size_most : screen.s ≤ 256
   pub height_least : IfSome screen.h (λ h. 1 ≤ h)
-  pub height_most : IfSome screen.h (λ h. h ≤ 16384)
+  pub height_most : IfSome screen.h (λ h. h ≤ MOST_PIXELS)
 
 -- a generated job's seed has 64 bits, and its sections are not too many
 pub record IsGenerable (seed sections : ℕ) : Type 0 where

@@ -4,6 +4,7 @@ ghost use Rattle.viz_run.specs.steps.Screens.{AreNoScreen, AreScreen};
 ghost use Rattle.viz_replies.specs.declared.question.Sections.{Sections};
 
 use itoa::Buffer;
+use viz_base::{MOST_PIXELS, MOST_SIZE};
 use viz_replies::{Screen, Sections};
 
 /// What the words ask for, with the names of its files.
@@ -80,8 +81,8 @@ fn number_to(word: &str, most: u32) -> Option<u32>
 fn screen_of(width: &str, size: &str) -> Option<Screen>
     ensures { MatchOption result (AreNoScreen (width.now ∷ size.now ∷ [])) (AreScreen (width.now ∷ size.now ∷ [])) }
 {
-    let w = number_to(width, 16_384)?;
-    let s = number_to(size, 256)?;
+    let w = number_to(width, MOST_PIXELS)?;
+    let s = number_to(size, MOST_SIZE)?;
     Some(Screen { w, s, h: None })
 }
 
@@ -90,9 +91,9 @@ fn tall_screen_of(width: &str, size: &str, height: &str) -> Option<Screen>
     ensures { MatchOption result (AreNoScreen (width.now ∷ size.now ∷ height.now ∷ []))
         (AreScreen (width.now ∷ size.now ∷ height.now ∷ [])) }
 {
-    let w = number_to(width, 16_384)?;
-    let s = number_to(size, 256)?;
-    let h = number_to(height, 16_384)?;
+    let w = number_to(width, MOST_PIXELS)?;
+    let s = number_to(size, MOST_SIZE)?;
+    let h = number_to(height, MOST_PIXELS)?;
     Some(Screen { w, s, h: Some(h) })
 }
 

@@ -3,6 +3,7 @@ use Rattle.std.specs.Prelude.{◌≡◌, ◌≢◌, ℕ, ◌+◌, ◌==◌, ◌&
 use Rattle.std.specs.List.{list_any, position, prefix_len}
 use Rattle.std.specs.Str.{is_utf8}
 use Rattle.viz_tables.specs.declared.rules.Rule.{Rule}
+use Rattle.viz_base.specs.declared.limits.TheConstants.{MOST_FORMULA}
 
 -- ---- one line
 
@@ -12,7 +13,7 @@ is_name_byte byte = (nat_le 97 byte && nat_le byte 122) || ((nat_le 48 byte && n
 
 -- UTF-8 of at most 16,384 bytes, which may be none
 abbrev pub is_formula : List ℕ → Bool
-is_formula formula = nat_le (length formula) 16384 && is_utf8 formula
+is_formula formula = nat_le (length formula) MOST_FORMULA && is_utf8 formula
 
 -- a name of one to 32 of these bytes stands first, and then a space
 abbrev pub is_named : ℕ → List ℕ → Bool

@@ -6,7 +6,7 @@ ghost use Rattle.viz_tables.specs.Lists.{fits, has_name, is_feed, is_formula, is
 use crate::rules::Rule;
 use std::alloc::Global;
 use std::str::from_utf8;
-use viz_base::{List, Mem, Text};
+use viz_base::{List, MOST_FORMULA, Mem, Text};
 
 /// A byte of a name.
 fn is_name_byte(byte: u8) -> bool
@@ -52,7 +52,7 @@ fn is_named(name: usize, line: &[u8]) -> bool
 fn formula_of(alloc: Global, bytes: &[u8]) -> Result<Option<Text>, Mem>
     ensures { IfOk result (λ text. text ≡ (if is_formula bytes.now then Some bytes.now else None)) }
 {
-    if bytes.len() > 16_384 {
+    if bytes.len() > MOST_FORMULA {
         return Ok(None);
     }
     match from_utf8(bytes) {

@@ -1,6 +1,7 @@
 -- What a box adds to inline content.
 use Rattle.std.specs.Prelude.{ℕ, Bool, true, false, List, [], ◌∷◌, ◌++◌, length, ◌≤◌, ◌<◌, ◌≡◌}
 use Rattle.std.specs.Str.{IsUtf8, chars}
+use Rattle.viz_base.specs.declared.limits.TheConstants.{MOST_CHARACTERS}
 use Rattle.viz_base.specs.declared.trees.BoxTree.{BoxTree}
 use Rattle.viz_base.specs.declared.trees.Kind.{Kind}
 use Rattle.viz_base.specs.declared.trees.Kind.TheVariants as of_kind
@@ -29,7 +30,7 @@ letters_in (word at text) = length text
 letters_in _ = 0
 
 abbrev pub IsShort : Item → Type 0
-IsShort i = letters_in i ≤ 262144
+IsShort i = letters_in i ≤ MOST_CHARACTERS
 
 -- a text that has this word up to its first space, and this text behind that
 pub record IsCut (text front rest : List ℕ) : Type 0 where

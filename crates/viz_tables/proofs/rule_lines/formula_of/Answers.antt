@@ -6,7 +6,7 @@ pub returns-in_ok-from_text-in-Ok : goal.returns-in_ok-from_text-in-Ok
 returns-in_ok-from_text-in-Ok c =
     let bytes = c.args.bytes.now in
     let found = c.in-Ok.ensures.cases in
-    let long = c.if-bytes-gt16384.false in
+    let long = c.if-bytes-gt-MOST_FORMULA.false in
     let short : length bytes ≤ 16384 = omega (arith, long) in
     ap Some (c.in_ok-from_text-in-Ok.ensures ∙ found.0) ∙ ap (λ yes. if yes then Some bytes else None) (sym (taken bytes short found.1))
 
