@@ -18,9 +18,8 @@ use crate::reading::read_rulesets;
 use crate::trimming::{Trimmed, trim};
 use css_select::{Siblings, find_siblings};
 use css_semantics::{Claim, Standing};
-use page_nodes::is_replaced;
 use std::alloc::Global;
-use viz_base::{Body, Cascaded, List, Node, Page, Setting, Sheet, Text};
+use viz_base::{Body, Cascaded, List, Node, Page, Setting, Sheet, Text, is_replaced};
 
 /// What a node comes to at which these win.
 fn judge(

@@ -11,9 +11,8 @@ ghost use Rattle.page_boxes.specs.steps.Nodes.{is_shown_in, nodes_walk, part_in,
 use crate::letters::letters_of;
 use crate::parts::{Level, Part};
 use crate::tables::held;
-use page_nodes::{is_break, is_replaced};
 use std::alloc::{AllocError, Global};
-use viz_base::{Body, Display, Kind, List, Mem, Node, Page, Style};
+use viz_base::{Body, Display, Kind, List, Mem, Node, Page, Style, is_break, is_replaced};
 
 /// What a node's kids stand in.
 #[derive(Clone, Copy)]

@@ -6,9 +6,8 @@ ghost use Rattle.layout_semantics.specs.Elements.{node_passes};
 ghost use Rattle.layout_semantics.specs.WhiteSpace.{is_in};
 ghost use Rattle.layout_laws.specs.Viewport.{is_body};
 
-use page_nodes::has_tag;
 use std::alloc::{AllocError, Global};
-use viz_base::{Body, List, Node, Page, Style};
+use viz_base::{Body, List, Node, Page, Style, has_tag};
 
 /// The element whose style a node has: a text has its parent's.
 fn styled_element(at: u32, node: &Node) -> u32

@@ -6,8 +6,7 @@ ghost use Rattle.viz_base.specs.declared.settings.Prop.TheVariants.{Content};
 ghost use Rattle.page_pseudo.specs.Generated.{generated, tag_of, takes_content, text_of};
 ghost use Rattle.page_pseudo.specs.Limits.{count};
 
-use page_nodes::{is_break, is_replaced};
-use viz_base::{Body, Prop, Pseudo, Setting, Text, Value};
+use viz_base::{Body, Prop, Pseudo, Setting, Text, Value, is_break, is_replaced};
 
 fn is_element(body: &Body) -> bool
     ensures { result ≡ is_element body.now }

@@ -3,6 +3,7 @@
 
 mod boxes;
 mod decimals;
+mod elements;
 mod fonts;
 mod formulas;
 mod groups;
@@ -28,6 +29,7 @@ mod worlds;
 
 pub use boxes::Boxed;
 pub use decimals::read_decimal;
+pub use elements::{has_tag, is_break, is_replaced};
 pub use fonts::Font;
 pub use formulas::{Edge, Face, Formula, Ring, Set, Sign, Summand, Term};
 pub use groups::Selector;

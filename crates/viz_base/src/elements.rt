@@ -1,10 +1,8 @@
 //! What an element of a page is by its tag and its own size (CSS 2.1, 3.1).
-#![tactic(auto)]
-
 ghost use Rattle.std.specs.Prelude.{◌≡◌};
 ghost use Rattle.viz_base.specs.Pages.{has_tag, is_break, is_replaced, is_sized};
 
-use viz_base::Body;
+use crate::Body;
 
 /// Whether a node is an element with this tag.
 pub fn has_tag(body: &Body, tag: &str) -> bool
