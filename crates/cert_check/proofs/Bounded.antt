@@ -10,7 +10,7 @@ use Rattle.viz_base.specs.declared.renderings.Placed.{Placed}
 use Rattle.viz_base.specs.declared.renderings.Quad.{Quad}
 use Rattle.viz_base.specs.declared.renderings.Rendering.{Rendering}
 use Rattle.page_limits.specs.Bounds.{IsPlacedIn, IsQuadIn, all_around}
-use Rattle.logic_semantics.specs.Ranges.{IsInRange}
+use Rattle.viz_base.specs.Worlds.{IsInRange}
 use Rattle.vis_truth.specs.Scenes.{IsNarrow, IsBoundedQuad, IsBoundedBox, IsBoundedRendering}
 
 -- the numbers of a job's worlds

@@ -3,7 +3,7 @@ use Rattle.std.proofs.Common.{◌≡◌, ℕ, ◌+◌, ◌-◌, Bool, true, fals
 use Rattle.std.proofs.lemmas.Option.{same_Some}
 use Rattle.viz_base.specs.declared.worlds.World.{World}
 use Rattle.viz_base.specs.declared.worlds.Rect.{Rect}
-use Rattle.logic_semantics.specs.Ranges.{IsInRange}
+use Rattle.viz_base.specs.Worlds.{IsInRange}
 use Rattle.cert_check.specs.Truths.{IsBefore}
 use Rattle.cert_check.specs.steps.Worlds.{if_so, at_world, first_of_size, first_of_width, first_world}
 use Rattle.cert_check.proofs.Seeks.{IsFound, seek-none, seek-found}

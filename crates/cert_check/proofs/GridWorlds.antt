@@ -4,14 +4,14 @@ use Rattle.std.specs.Prelude.{is_none}
 use Rattle.viz_base.specs.declared.worlds.World.{World}
 use Rattle.viz_base.specs.declared.worlds.Rect.{Rect}
 use Rattle.viz_base.specs.declared.jobs.Job.{Job}
-use Rattle.logic_semantics.specs.Ranges.{IsInRange}
+use Rattle.viz_base.specs.Worlds.{IsInRange}
 use Rattle.lin_row.specs.Form.{value}
 use Rattle.cert_path.specs.Paths.{def, first, second, lemma, Path, root, ◌▸◌, form_of, values_along, IsOn}
 use Rattle.cert_path.specs.Rectangles.{rectangle}
 use Rattle.cert_path.specs.Laws.{UnitsAreTaken}
 use Rattle.cert_path.proofs.Sides.{rectangle_is_units}
 use Rattle.cert_check.specs.declared.descent.Above.{Above}
-use Rattle.cert_check.specs.Rectangles.{is_unit}
+use Rattle.cert_path.specs.Units.{is_unit}
 use Rattle.cert_check.specs.Truths.{is_true_at}
 use Rattle.cert_check.specs.steps.Worlds.{first_world}
 use Rattle.cert_check.specs.steps.Descent.{path_of}

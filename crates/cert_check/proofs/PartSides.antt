@@ -11,9 +11,8 @@ use Rattle.viz_base.specs.declared.worlds.Axis.{Axis}
 use Rattle.viz_base.specs.declared.worlds.Axis.TheVariants.{Width, Size, Height}
 use Rattle.viz_base.specs.declared.worlds.Span.{Span}
 use Rattle.viz_base.specs.declared.worlds.Rect.{Rect}
-use Rattle.viz_base.specs.Worlds.{side_of, with_side, world_count as count_of}
+use Rattle.viz_base.specs.Worlds.{side_of, with_side, world_count as count_of, IsInRange}
 use Rattle.viz_base.specs.declared.jobs.Job.{Job}
-use Rattle.logic_semantics.specs.Ranges.{IsInRange}
 use Rattle.lin_row.specs.Form.{Form, Terms, denied}
 use Rattle.cert_path.specs.Axes.{variable_of, axis_of, stands_for}
 use Rattle.cert_path.specs.Rectangles.{Side, Sides, cut_sides, cut_side as cut_a_side, left_by, left_by_terms, side_from, whole, rectangle, count, world_count}
@@ -21,12 +20,12 @@ use Rattle.cert_path.specs.Paths.{Step, first, second, Path, ◌▸◌, form_of,
 use Rattle.cert_path.specs.Laws.{IsInside}
 use Rattle.cert_path.proofs.Variables.{axis_has, stands}
 use Rattle.cert_path.proofs.Sides.{whole_is}
-use Rattle.cert_check.specs.declared.cuts.Child.{Child}
-use Rattle.cert_check.specs.declared.cuts.Child.TheVariants.{First, Second}
-use Rattle.cert_check.specs.declared.cuts.Cut.{Cut}
-use Rattle.cert_check.specs.declared.cuts.Opens.TheVariants.{Above, UpTo}
-use Rattle.cert_check.specs.Rectangles.{IsWithin, coefficient_cut, terms_cut, cut_of, at_most, above, cut_side, toward, cut_at}
-use Rattle.cert_check.specs.Rectangles.{IsProper}
+use Rattle.viz_base.specs.declared.rectangles.Child.{Child}
+use Rattle.viz_base.specs.declared.rectangles.Child.TheVariants.{First, Second}
+use Rattle.viz_base.specs.declared.rectangles.Cut.{Cut}
+use Rattle.viz_base.specs.declared.rectangles.Opens.TheVariants.{Above, UpTo}
+use Rattle.viz_base.specs.Rectangles.{IsWithin, at_most, above, cut_side, toward, IsProper}
+use Rattle.cert_path.specs.Units.{coefficient_cut, terms_cut, cut_of, cut_at}
 use Rattle.cert_check.specs.steps.Grids.{IsPart}
 use Rattle.cert_check.proofs.Parts.{int_test, of_some_axis, of_no_axis, child_within}
 

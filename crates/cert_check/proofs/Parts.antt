@@ -12,13 +12,14 @@ use Rattle.viz_base.specs.declared.worlds.Rect.{Rect}
 use Rattle.viz_base.specs.Worlds.{side_of, with_side}
 use Rattle.lin_row.specs.Form.{Form, Terms}
 use Rattle.cert_path.specs.Laws.{IsUnit}
-use Rattle.cert_check.specs.declared.cuts.Child.{Child}
-use Rattle.cert_check.specs.declared.cuts.Opens.{Opens}
-use Rattle.cert_check.specs.declared.cuts.Opens.TheVariants.{Above, UpTo}
-use Rattle.cert_check.specs.declared.cuts.Cut.{Cut}
+use Rattle.viz_base.specs.declared.rectangles.Child.{Child}
+use Rattle.viz_base.specs.declared.rectangles.Opens.{Opens}
+use Rattle.viz_base.specs.declared.rectangles.Opens.TheVariants.{Above, UpTo}
+use Rattle.viz_base.specs.declared.rectangles.Cut.{Cut}
 use Rattle.cert_path.specs.Axes.{variable_of, axis_of, axis_count, stands_for}
 use Rattle.cert_path.proofs.Variables.{some_axis, have_variables}
-use Rattle.cert_check.specs.Rectangles.{IsWithin, coefficient_cut, terms_cut, at_most, above, cut_side, toward, part_of, is_unit}
+use Rattle.viz_base.specs.Rectangles.{IsWithin, at_most, above, cut_side, toward, part_of}
+use Rattle.cert_path.specs.Units.{coefficient_cut, terms_cut, is_unit}
 
 -- ---- unit rows
 

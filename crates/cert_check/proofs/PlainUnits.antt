@@ -22,7 +22,7 @@ use Rattle.cert_path.specs.Nodes.{splits, Node, nodes_from, nodes_of}
 use Rattle.cert_path.specs.Laws.{IsUnit}
 use Rattle.cert_path.proofs.Trees.{by_nodes, nodes-def, nodes-split, nodes-lemma, nodes-void, nodes-grid, nodes-leaf}
 use Rattle.cert_check.specs.Numbers.{computed, are_computed}
-use Rattle.cert_check.specs.Rectangles.{is_unit, AreUnits}
+use Rattle.cert_path.specs.Units.{is_unit, AreUnits}
 use Rattle.cert_check.specs.Right.{IsWithin128, IsUnitOrGrid}
 use Rattle.cert_check.specs.Laws.{UnitsArePlain}
 use Rattle.cert_check.proofs.Parts.{unit_is_unit_row}

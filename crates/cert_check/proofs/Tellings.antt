@@ -8,7 +8,7 @@ use Rattle.viz_base.specs.declared.worlds.World.{World}
 use Rattle.viz_base.specs.declared.jobs.Job.{Job}
 use Rattle.viz_base.proofs.Truths.{not_both}
 use Rattle.viz_base.proofs.ListLemmas.{all_append}
-use Rattle.logic_semantics.specs.Ranges.{IsInRange}
+use Rattle.viz_base.specs.Worlds.{IsInRange}
 use Rattle.lin_row.specs.Form.{Form, form_fits, denied}
 use Rattle.lin_proof.specs.declared.derivation.Derivation.{Derivation}
 use Rattle.cert_text.specs.declared.certificate.Cert.{Cert}

@@ -6,7 +6,7 @@ use Rattle.cert_text.specs.declared.certificate.Cert.{Cert}
 use Rattle.cert_text.specs.Texts.{CertText}
 use Rattle.cert_path.specs.Laws.{IsUnit}
 use Rattle.cert_check.specs.declared.verdicts.Verdict.{Verdict}
-use Rattle.cert_check.specs.Rectangles.{is_unit}
+use Rattle.cert_path.specs.Units.{is_unit}
 use Rattle.cert_check.specs.Truths.{Holds}
 use Rattle.cert_check.specs.Right.{Right, IsPlainlyComputed, HasNoLeaf, AreUnitsAndGrids}
 use Rattle.cert_check.specs.Verdicts.{IsVerdict}

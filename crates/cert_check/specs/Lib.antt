@@ -1,5 +1,3 @@
-pub mod Rectangles
-pub mod Halves
 pub mod Truths
 pub mod Numbers
 pub mod Leaves

@@ -7,7 +7,7 @@ use Rattle.lin_row.specs.Number.{in_i128}
 use Rattle.cert_path.specs.Paths.{def, first, second, lemma, Path, root, ◌▸◌, form_of, values_along}
 use Rattle.cert_path.specs.Rectangles.{rectangle}
 use Rattle.cert_path.specs.Laws.{IsInside}
-use Rattle.cert_check.specs.Rectangles.{is_unit}
+use Rattle.cert_path.specs.Units.{is_unit}
 
 abbrev pub checked : ℤ → Option ℤ
 checked z = if in_i128 z then Some z else None

@@ -5,7 +5,8 @@ use Rattle.viz_base.specs.declared.worlds.Rect.{Rect}
 use Rattle.viz_base.specs.declared.jobs.Job.{Job}
 use Rattle.viz_base.specs.declared.renderings.Rendering.{Rendering}
 use Rattle.layout_semantics.specs.Page.{page_rendering}
-use Rattle.logic_semantics.specs.Ranges.{IsInRange, holds_at}
+use Rattle.viz_base.specs.Worlds.{IsInRange}
+use Rattle.logic_semantics.specs.Ranges.{holds_at}
 use Rattle.logic_semantics.specs.Ranges.{Holds as HoldsOver}
 use Rattle.cert_path.specs.Paths.{Path, IsOn}
 

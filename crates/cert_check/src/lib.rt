@@ -2,10 +2,8 @@
 #![tactic(auto)]
 
 mod bytes;
-mod cuts;
 mod descent;
 mod entry;
-mod halves;
 mod laws;
 mod leaf;
 mod look;
@@ -18,10 +16,8 @@ mod walk;
 mod worlds;
 
 pub use bytes::{BytesVerdict, Front, check_bytes, check_front};
-pub use cuts::{Child, Cut, Opens, cut_of, part_of, world_count};
 pub use descent::{Above, Descent};
 pub use entry::check;
-pub use halves::{Halves, halves_of, longest_axis, middle};
 pub use laws::{
     no_more_nodes_than_bytes, one_verdict_each, right_holds, unit_rows, units_are_plain,
 };

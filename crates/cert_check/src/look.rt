@@ -1,8 +1,8 @@
 ghost use Rattle.std.specs.Prelude.{◌≡◌, ◌<◌, ◌≤◌, ◌^◌, Bool, IfOk};
 ghost use Rattle.viz_base.specs.declared.worlds.World.{World};
 ghost use Rattle.viz_base.specs.declared.worlds.Rect.{Rect};
-ghost use Rattle.logic_semantics.specs.Ranges.{IsInRange};
-ghost use Rattle.cert_check.specs.Rectangles.{IsWithin};
+ghost use Rattle.viz_base.specs.Worlds.{IsInRange};
+ghost use Rattle.viz_base.specs.Rectangles.{IsWithin};
 ghost use Rattle.cert_check.specs.steps.Worlds.{first_of_size, first_of_width, first_world};
 
 use viz_base::{Mem, Rect, World};

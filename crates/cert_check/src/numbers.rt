@@ -5,9 +5,8 @@ ghost use Rattle.cert_path.specs.Axes.{axes};
 ghost use Rattle.cert_check.specs.Numbers.{add_term, computed, sum_on};
 ghost use Rattle.cert_check.specs.steps.Grids.{value_in, pass, place_of, are_above_zero, is_above_zero};
 
-use crate::cuts::cut_of;
 use crate::descent::Above;
-use cert_path::along;
+use cert_path::{along, cut_of};
 use lin_row::Row;
 use std::alloc::Global;
 use viz_base::{Axis, List, Mem, World};

@@ -1,5 +1,5 @@
 ghost use Rattle.std.specs.Prelude.{◌≡◌, IfOk, IsTrue};
-ghost use Rattle.cert_check.specs.Rectangles.{IsWithin};
+ghost use Rattle.viz_base.specs.Rectangles.{IsWithin};
 ghost use Rattle.cert_check.specs.steps.Worlds.{first_world};
 ghost use Rattle.cert_check.specs.steps.Grids.{are_above_zero, is_outside, is_untrue_on};
 

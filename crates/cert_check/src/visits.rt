@@ -9,7 +9,6 @@ ghost use Rattle.cert_check.specs.steps.Stream.{CanTurn, IsDue, IsReady, due_beh
 ghost use Rattle.cert_check.specs.steps.Tells.{Judges, Tells};
 ghost use Rattle.cert_check.specs.steps.Ways.{path_at};
 
-use crate::cuts::Child;
 use crate::descent::{Above, Descent};
 use crate::walk::{
     Stop, check_answers, check_def, check_grid, check_lemma, check_split, check_void, child_part,
@@ -18,7 +17,7 @@ use cert_text::Piece;
 use lin_proof::{Answer, Derivation};
 use lin_row::Row;
 use std::alloc::{AllocError, Global};
-use viz_base::{Job, Mem, Rect};
+use viz_base::{Child, Job, Mem, Rect};
 
 /// A split of whose first part nodes are still to come, and its own part of the rectangle.
 #[derive(Drop)]

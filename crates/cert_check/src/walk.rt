@@ -10,18 +10,19 @@ ghost use Rattle.cert_path.specs.Derived.{IsEntailed};
 ghost use Rattle.cert_path.specs.Rectangles.{rectangle};
 ghost use Rattle.cert_path.specs.Shapes.{is_shaped};
 ghost use Rattle.cert_check.specs.Leaves.{node_in};
-ghost use Rattle.cert_check.specs.Rectangles.{IsWithin, cut_of, cut_at};
+ghost use Rattle.viz_base.specs.Rectangles.{IsWithin};
+ghost use Rattle.cert_path.specs.Units.{cut_of, cut_at};
 ghost use Rattle.cert_check.specs.Verdicts.{IsRejected};
 ghost use Rattle.cert_check.specs.steps.Ways.{path_at};
 ghost use Rattle.cert_check.specs.steps.Grids.{IsPart};
 ghost use Rattle.cert_check.specs.steps.Tells.{Judges, Tells};
 
-use crate::cuts::{Child, cut_of, part_of, world_count};
 use crate::descent::Descent;
 use crate::leaf::check_new_leaf;
 use crate::path_worlds::{first_outside, first_untrue};
 use crate::shapes::{has_denial, is_shaped_def, is_shaped_row};
 use crate::verdicts::{Reject, Verdict};
+use cert_path::cut_of;
 use cert_text::CertNode;
 use lin_proof::{
     Answer, Derivation, Facts, first_fault_among, first_fault_of_entailment, line_count,
@@ -29,7 +30,7 @@ use lin_proof::{
 use lin_row::{Row, RowFault};
 use std::alloc::{AllocError, Global};
 use sym_calc::Sym;
-use viz_base::{Boxed, Mem, Rect};
+use viz_base::{Boxed, Child, Mem, Rect, part_of, world_count};
 
 /// Why the walk stops. It lies in a box, so that a level of the walk takes little of the stack.
 #[derive(Drop)]

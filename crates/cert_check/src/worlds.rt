@@ -1,8 +1,9 @@
 ghost use Rattle.std.specs.Prelude.{◌≡◌, IsTrue, IfOk, MatchOption};
 ghost use Rattle.viz_base.specs.Formulas.{has_small_terms};
-ghost use Rattle.logic_semantics.specs.Ranges.{IsInRange, holds_at as holds_there};
+ghost use Rattle.viz_base.specs.Worlds.{IsInRange};
+ghost use Rattle.viz_base.specs.Rectangles.{IsWithin};
+ghost use Rattle.logic_semantics.specs.Ranges.{holds_at as holds_there};
 ghost use Rattle.cert_check.specs.Truths.{is_true_at, rendering_of, IsTrueIn, IsFirstUntrueIn};
-ghost use Rattle.cert_check.specs.Rectangles.{IsWithin};
 
 use crate::look::{Look, first_world};
 use lay_flow::render_at;

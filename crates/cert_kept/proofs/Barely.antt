@@ -13,7 +13,7 @@ use Rattle.cert_path.specs.Nodes.{Decision, names, splits, states, is_empty, by_
 use Rattle.cert_path.specs.Rectangles.{Sides, rectangle, left_by, world_count}
 use Rattle.cert_path.specs.Shapes.{has_variable, has_remainders, same_row, is_named, is_shaped}
 use Rattle.cert_path.specs.Laws.{IsInside}
-use Rattle.cert_check.specs.Rectangles.{is_unit}
+use Rattle.cert_path.specs.Units.{is_unit}
 use Rattle.cert_check.specs.Numbers.{computed, are_computed, IsComputed}
 use Rattle.cert_check.specs.Truths.{IsTrueOn}
 use Rattle.cert_kept.specs.Kept.{is_firm}

@@ -8,9 +8,10 @@ use Rattle.lin_row.specs.Form.{Form}
 use Rattle.cert_path.specs.Paths.{def, lemma, root, ◌▸◌, variables}
 use Rattle.cert_path.specs.Axes.{axis_count}
 use Rattle.cert_path.specs.Rectangles.{rectangle}
-use Rattle.cert_check.specs.declared.cuts.Child.{Child}
+use Rattle.viz_base.specs.declared.rectangles.Child.{Child}
 use Rattle.cert_check.specs.declared.descent.Descent.{Descent}
-use Rattle.cert_check.specs.Rectangles.{IsWithin, cut_of, cut_at}
+use Rattle.viz_base.specs.Rectangles.{IsWithin}
+use Rattle.cert_path.specs.Units.{cut_of, cut_at}
 use Rattle.cert_check.specs.steps.Descent.{path_of}
 use Rattle.cert_check.specs.steps.Grids.{IsPart}
 use Rattle.cert_check.specs.steps.Ways.{path_at}

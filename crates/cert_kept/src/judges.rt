@@ -7,7 +7,7 @@ ghost use Rattle.cert_path.specs.Nodes.{by_answers, by_worlds, Node, node_on, sp
 ghost use Rattle.cert_path.specs.Paths.{variables};
 ghost use Rattle.cert_path.specs.Rectangles.{rectangle};
 ghost use Rattle.cert_path.specs.Shapes.{is_shaped};
-ghost use Rattle.cert_check.specs.Rectangles.{IsWithin};
+ghost use Rattle.viz_base.specs.Rectangles.{IsWithin};
 ghost use Rattle.cert_check.specs.steps.Grids.{IsPart};
 ghost use Rattle.cert_check.specs.steps.Tells.{Judges};
 ghost use Rattle.cert_check.specs.steps.Ways.{path_at};

@@ -13,11 +13,11 @@ ghost use Rattle.cert_kept.specs.steps.Walks.{IsHere, KeepsBelow, KeepsBoth, Kee
 use crate::here::Here;
 use crate::judges::{is_derived, is_firm_row, is_good_grid, is_good_leaf};
 use crate::kept::Kept;
-use cert_check::{Child, Descent, child_part, is_shaped_def};
+use cert_check::{Descent, child_part, is_shaped_def};
 use cert_text::CertNode;
 use lin_proof::{Answer, Derivation};
 use lin_row::Row;
-use viz_base::Mem;
+use viz_base::{Child, Mem};
 
 /// Counts a node and all below it, none of which is kept.
 fn pass_node(node: &CertNode, kept: Kept) -> Result<Kept, Mem>

@@ -2,7 +2,7 @@
 use Rattle.std.proofs.Common.{◌≡◌, ℕ, refl, IsTrue}
 use Rattle.viz_base.specs.declared.worlds.World.{World}
 use Rattle.viz_base.specs.declared.worlds.Rect.{Rect}
-use Rattle.logic_semantics.specs.Ranges.{IsInRange}
+use Rattle.viz_base.specs.Worlds.{IsInRange}
 use Rattle.cert_text.specs.declared.certificate.Cert.{Cert}
 use Rattle.cert_path.specs.Paths.{Path, variables, IsOn, AreSound}
 use Rattle.cert_path.specs.Nodes.{Decision, names, splits, states, is_empty, by_worlds, by_answers, is_end, is_laid_out}

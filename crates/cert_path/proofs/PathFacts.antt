@@ -9,10 +9,9 @@ use Rattle.std.proofs.lemmas.Option.{same_Some}
 use Rattle.viz_base.specs.declared.worlds.World.{World}
 use Rattle.viz_base.specs.declared.worlds.Rect.{Rect}
 use Rattle.viz_base.specs.declared.worlds.Axis.{Axis}
-use Rattle.viz_base.specs.Worlds.{side_of}
+use Rattle.viz_base.specs.Worlds.{side_of, IsInRange}
 use Rattle.viz_base.specs.Jobs.{IsFormed}
 use Rattle.viz_base.proofs.ListLemmas.{all_append, all_parts}
-use Rattle.logic_semantics.specs.Ranges.{IsInRange}
 use Rattle.lin_row.specs.Form.{Form, value, plus, denied}
 use Rattle.lin_row.proofs.Values.{value-plus, value-denied}
 use Rattle.lin_row.proofs.Whole.{div_below}

@@ -10,8 +10,7 @@ use Rattle.viz_base.specs.declared.worlds.World.{World}
 use Rattle.viz_base.specs.declared.worlds.Axis.{Axis}
 use Rattle.viz_base.specs.declared.worlds.Axis.TheVariants.{Width, Size, Height}
 use Rattle.viz_base.specs.declared.worlds.Rect.{Rect}
-use Rattle.viz_base.specs.Worlds.{along}
-use Rattle.logic_semantics.specs.Ranges.{IsInRange}
+use Rattle.viz_base.specs.Worlds.{along, IsInRange}
 use Rattle.lin_row.specs.Form.{Form, Terms, value, denied, opposites}
 use Rattle.lin_row.proofs.Values.{value-denied}
 use Rattle.lin_proof.specs.Derivations.{are_declared}

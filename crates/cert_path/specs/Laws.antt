@@ -5,9 +5,8 @@ use Rattle.viz_base.specs.declared.worlds.World.{World}
 use Rattle.viz_base.specs.declared.worlds.Axis.{Axis}
 use Rattle.viz_base.specs.declared.worlds.Axis.TheVariants.{Height}
 use Rattle.viz_base.specs.declared.worlds.Rect.{Rect}
-use Rattle.viz_base.specs.Worlds.{along}
+use Rattle.viz_base.specs.Worlds.{along, IsInRange}
 use Rattle.viz_base.specs.Jobs.{IsFormed}
-use Rattle.logic_semantics.specs.Ranges.{IsInRange}
 use Rattle.lin_row.specs.Form.{Form, value}
 use Rattle.lin_proof.specs.declared.derivation.Derivation.{Derivation}
 use Rattle.lin_proof.specs.declared.derivation.Answer.{Answer}

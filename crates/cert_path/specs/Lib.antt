@@ -1,5 +1,6 @@
 pub mod Axes
 pub mod Paths
+pub mod Units
 pub mod Facts
 pub mod Nodes
 pub mod Rectangles

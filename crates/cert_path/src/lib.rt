@@ -6,5 +6,7 @@ pub mod examples;
 pub mod facts;
 pub mod nodes;
 pub mod shapes;
+pub mod units;
 
 pub use axes::{along, axis_count, axis_of, variable_of};
+pub use units::cut_of;

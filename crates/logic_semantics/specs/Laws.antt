@@ -20,7 +20,7 @@ use Rattle.logic_semantics.specs.Scenes.{Scene, scene_of, is_member, is_member_a
 use Rattle.logic_semantics.specs.Terms.{compares, edge_value, term_value}
 use Rattle.logic_semantics.specs.Truth.{truth_in}
 use Rattle.logic_semantics.specs.Blame.{blame_in}
-use Rattle.logic_semantics.specs.Ranges.{IsInRange}
+use Rattle.viz_base.specs.Worlds.{IsInRange}
 
 -- ---- truth
 

@@ -1,20 +1,12 @@
-use Rattle.std.specs.Prelude.{◌≤◌, Bool, IsTrue}
+use Rattle.std.specs.Prelude.{Bool, IsTrue}
 use Rattle.viz_base.specs.declared.worlds.World.{World}
 use Rattle.viz_base.specs.declared.worlds.Rect.{Rect}
+use Rattle.viz_base.specs.Worlds.{IsInRange}
 use Rattle.viz_base.specs.declared.formulas.Formula.{Formula}
 use Rattle.viz_base.specs.declared.renderings.Rendering.{Rendering}
 use Rattle.std.specs.Prelude.{ℤ}
 use Rattle.logic_semantics.specs.Scenes.{scene_of}
 use Rattle.logic_semantics.specs.Truth.{truth}
-
--- the world is in the range, both ends of each side included
-pub record IsInRange (range : Rect) (world : World) : Type 0 where
-  pub width_least : range.wl ≤ world.w
-  pub width_most : world.w ≤ range.wh
-  pub size_least : range.sl ≤ world.s
-  pub size_most : world.s ≤ range.sh
-  pub height_least : range.hl ≤ world.h
-  pub height_most : world.h ≤ range.hh
 
 -- the formula's truth at a world, on what this gives as the rendering there
 abbrev pub holds_at : (World → Rendering ℤ) → Formula → World → Bool

@@ -6,7 +6,7 @@ use Rattle.std.proofs.lemmas.List.Folds.{list_any-append}
 use Rattle.viz_base.specs.declared.sheets.Feature.{Feature}
 use Rattle.viz_base.specs.declared.worlds.Rect.{Rect}
 use Rattle.viz_base.specs.declared.worlds.World.{World}
-use Rattle.logic_semantics.specs.Ranges.{IsInRange}
+use Rattle.viz_base.specs.Worlds.{IsInRange}
 use Rattle.logic_semantics.proofs.Members.{range_of_some}
 use Rattle.page_media.specs.Parts.{numbers, parts_of, row_of, same_signs, signs_at}
 use Rattle.page_media.proofs.Lists.{any-map, noted_all-any, noted_all-once, some_of_range}

@@ -8,7 +8,7 @@ use Rattle.viz_base.specs.declared.renderings.Rendering.{Rendering}
 use Rattle.viz_base.specs.declared.worlds.Rect.{Rect}
 use Rattle.viz_base.specs.declared.worlds.World.{World}
 use Rattle.std.specs.Prelude.{ℤ}
-use Rattle.logic_semantics.specs.Ranges.{IsInRange}
+use Rattle.viz_base.specs.Worlds.{IsInRange}
 use Rattle.logic_semantics.specs.Scenes.{scene_of}
 use Rattle.logic_semantics.specs.Truth.{truth}
 use Rattle.page_media.specs.Queries.{is_met, met_sheets}

@@ -15,7 +15,7 @@ use Rattle.viz_base.specs.declared.worlds.Rect.{Rect}
 use Rattle.viz_base.specs.declared.worlds.World.{World}
 use Rattle.viz_base.specs.Formulas.{has_small_terms, is_bound_in}
 use Rattle.viz_base.proofs.Sameness.{same_Ok}
-use Rattle.logic_semantics.specs.Ranges.{IsInRange}
+use Rattle.viz_base.specs.Worlds.{IsInRange}
 use Rattle.logic_semantics.specs.Scenes.{scene_of}
 use Rattle.logic_semantics.specs.Truth.{truth}
 use Rattle.cert_check.specs.Truths.{is_true_at, rendering_of}

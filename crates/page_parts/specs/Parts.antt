@@ -4,7 +4,7 @@ use Rattle.std.specs.List.{AllByRecursion}
 use Rattle.viz_base.specs.Jobs.{IsRange}
 use Rattle.viz_base.specs.declared.jobs.Job.{Job}
 use Rattle.viz_base.specs.declared.worlds.World.{World}
-use Rattle.logic_semantics.specs.Ranges.{IsInRange}
+use Rattle.viz_base.specs.Worlds.{IsInRange}
 use Rattle.cert_check.specs.Truths.{is_true_at}
 use Rattle.page_json.specs.Jobs.{Raw, raw_job, raw_job_with}
 use Rattle.page_build.specs.Jobs.{AreBuilt, IsBuiltAt}

@@ -7,10 +7,9 @@ use crate::seeking::{
     GRID, Part, Place, Stop, below, count_of, enter, explore, first_pool, halving, leave, put_split,
 };
 use crate::tiling::grid_count;
-use cert_check::Child;
 use lin_row::Row;
 use path_calc::Pool;
-use viz_base::Rect;
+use viz_base::{Child, Rect};
 
 /// How many leaves a tree is to have at most.
 #[derive(Clone, Copy)]

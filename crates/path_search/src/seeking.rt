@@ -5,8 +5,7 @@ use crate::rectangles::{Budget, budget_of, rectangle};
 use crate::runs::{Outcome, ask_premises, outcome_of, truth_over};
 use crate::slices::{ends_met, pools_under, slices_of};
 use crate::tiling::{Cut, cut_of_flat, cut_of_tiles};
-use cert_check::{Child, cut_of, holds_at, middle, part_of};
-use cert_path::{axis_of, variable_of};
+use cert_path::{axis_of, cut_of, variable_of};
 use cert_text::{Cert, CertNode};
 use lin_proof::Derivation;
 use lin_row::{Row, RowFault};
@@ -16,7 +15,8 @@ use path_calc::{
 };
 use std::alloc::{AllocError, AllocFailed, Global};
 use sym_calc::{Floor, Path};
-use viz_base::{Axis, Boxed, Job, Mem, Rect, World};
+use viz_base::{Axis, Boxed, Child, Job, Mem, Rect, World, lies_in, middle, part_of};
+use viz_calc::{Halt, Plain};
 
 /// What a search comes to. None of it is certain.
 #[derive(Drop)]
@@ -246,14 +246,19 @@ fn meet(place: &Place<'_>, pool: &mut Pool, known: Known) -> Result<(), Stop> {
 
 /// Stops at a world of the range at which the formula is false.
 fn try_world(place: &Place<'_>, world: World) -> Result<(), Stop> {
-    let range = place.job.range;
-    let is_wide = range.wl <= world.w && world.w <= range.wh;
-    let is_sized = range.sl <= world.s && world.s <= range.sh;
-    let is_high = range.hl <= world.h && world.h <= range.hh;
-    if is_wide && is_sized && is_high && !holds_at(place.alloc, place.job, world)? {
+    if lies_in(place.job.range, world) && !is_true_at(place, world)? {
         return Err(Stop::Untrue(world));
     }
     Ok(())
+}
+
+/// Whether the formula is true at a world.
+fn is_true_at(place: &Place<'_>, world: World) -> Result<bool, Stop> {
+    match truth_over(place.alloc, place.job, &mut Plain::new(world)) {
+        Ok(yes) => Ok(yes),
+        Err(Halt::Mem) => Err(Stop::Mem),
+        Err(_) => Err(Stop::GaveUp),
+    }
 }
 
 /// How many worlds a rectangle has.

@@ -1,11 +1,10 @@
 //! The worlds of a path size by size, at some heights: the ends of its widths show both signs of nearly each row that
 //! has both, since at one size and height a row of text is linear in the width.
 use crate::seeking::{Place, Stop, add_floors, meets_facts};
-use cert_check::middle;
 use lin_row::Row;
 use path_calc::{Known, Pool, Slice, value_of};
 use std::alloc::{AllocError, Global};
-use viz_base::{Rect, World};
+use viz_base::{Rect, World, middle};
 
 /// How many sizes a path is followed at, and how many slices there are where it is at several heights.
 const MOST_SIZES: u32 = 64;

@@ -1,8 +1,7 @@
 //! How few grids cover a rectangle, and where it is cut for them: heights are taken so many together, then sizes, and
 //! widths as many as fill a grid with these.
 use crate::seeking::GRID;
-use cert_check::middle;
-use viz_base::{Axis, Rect};
+use viz_base::{Axis, Rect, middle};
 
 /// How many widths, sizes and heights a rectangle has.
 #[derive(Clone, Copy)]

@@ -13,7 +13,7 @@ use Rattle.viz_base.specs.declared.worlds.Axis.TheVariants.{Width, Size, Height}
 use Rattle.viz_base.specs.declared.worlds.Rect.{Rect}
 use Rattle.viz_base.specs.declared.jobs.Job.{Job}
 use Rattle.viz_base.proofs.ListLemmas.{all_append}
-use Rattle.logic_semantics.specs.Ranges.{IsInRange}
+use Rattle.viz_base.specs.Worlds.{IsInRange, side_of, span_count, world_count}
 use Rattle.lin_row.specs.Form.{Form, denied, form_fits}
 use Rattle.lin_row.specs.Number.{in_i128}
 use Rattle.cert_text.specs.declared.certificate.CertNode.{CertNode}
@@ -32,20 +32,19 @@ use Rattle.cert_path.specs.Shapes.{is_shaped}
 use Rattle.cert_path.proofs.Sides.{rectangle_is_units}
 use Rattle.cert_path.proofs.Trees.{preorder}
 use Rattle.cert_path.proofs.Values.{axes_declared}
-use Rattle.viz_base.specs.Worlds.{side_of, span_count, world_count}
-use Rattle.cert_check.specs.Rectangles.{IsWithin, is_unit}
+use Rattle.viz_base.specs.Rectangles.{IsWithin, IsProper}
+use Rattle.cert_path.specs.Units.{is_unit, row_up_to}
 use Rattle.cert_check.specs.Truths.{is_true_at}
 use Rattle.cert_check.specs.Truths.{IsTrueIn, IsFirstUntrueIn}
-use Rattle.cert_check.specs.Rectangles.{IsProper}
 use Rattle.cert_check.specs.Right.{IsGood}
 use Rattle.cert_check.proofs.GridWorlds.{on_units}
 use Rattle.cert_check.proofs.PartSides.{inside_part, some_count}
 use Rattle.cert_check.proofs.PlainUnits.{units_computed}
-use Rattle.cert_check.specs.declared.halves.Halves.{Halves}
+use Rattle.viz_base.specs.declared.halves.Halves.{Halves}
 use Rattle.prove_search.specs.declared.plain.Closed.{Closed}
 use Rattle.prove_search.specs.declared.plain.Stop.{Stop}
 use Rattle.prove_search.specs.declared.plain.Stop.TheVariants.{Mem, Violated, Undecided}
-use Rattle.cert_check.specs.Halves.{row_up_to, halves_of}
+use Rattle.viz_base.specs.Halves.{halves_of}
 use Rattle.prove_search.specs.Outcomes.{laid_out_count, IsViolation}
 use Rattle.prove_search.specs.steps.Finds.{HasLevels, LeadsTo, IsClosed, IsFinding}
 use Rattle.prove_search.proofs.Halving.{IsOfForm, IsHalving, halves_are}

@@ -9,7 +9,7 @@ use Rattle.lin_row.specs.Number.{in_i128}
 use Rattle.cert_path.specs.Axes.{variable_of}
 use Rattle.cert_text.specs.Texts.{row_has_text}
 use Rattle.cert_text.specs.steps.Write.{row_bytes}
-use Rattle.cert_check.specs.Halves.{row_up_to}
+use Rattle.cert_path.specs.Units.{row_up_to}
 
 -- a number of `i128`, and the one below its opposite
 pub in_width : (m : ℕ) → m ≤ 16384 → (in_i128 (pos m) ≡ true) × (in_i128 (negsuc m) ≡ true)

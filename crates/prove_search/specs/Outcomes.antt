@@ -3,18 +3,16 @@ use Rattle.std.specs.Prelude.{◌≡◌, ◌↔◌, ◌⊎◌, ℕ, ◌+◌, ◌
 use Rattle.viz_base.specs.declared.worlds.World.{World}
 use Rattle.viz_base.specs.declared.worlds.Rect.{Rect}
 use Rattle.viz_base.specs.declared.jobs.Job.{Job}
-use Rattle.logic_semantics.specs.Ranges.{IsInRange}
+use Rattle.viz_base.specs.Worlds.{IsInRange, world_count}
 use Rattle.cert_text.specs.declared.certificate.Cert.{Cert}
 use Rattle.cert_text.specs.declared.certificate.CertNode.{CertNode}
 use Rattle.cert_text.specs.declared.certificate.CertNode.TheOpen.{CertNode-F}
 use Rattle.cert_text.specs.declared.certificate.CertNode.TheVariants.{Grid}
 use Rattle.cert_text.specs.declared.certificate.CertNode.TheFolds.{fold-CertNode}
 use Rattle.cert_text.specs.Texts.{CertText}
-use Rattle.viz_base.specs.Worlds.{world_count}
-use Rattle.cert_check.specs.Rectangles.{IsWithin}
+use Rattle.viz_base.specs.Rectangles.{IsWithin, IsProper}
 use Rattle.cert_check.specs.Truths.{is_true_at, Holds}
 use Rattle.cert_check.specs.Right.{Right}
-use Rattle.cert_check.specs.Rectangles.{IsProper}
 use Rattle.prove_search.specs.declared.outcome.Outcome.{Outcome}
 use Rattle.prove_search.specs.declared.outcome.Outcome.TheVariants.{Proved, Violated, Undecided}
 

@@ -1,21 +1,20 @@
 //! What a finding has to pass, whoever made it.
 ghost use Rattle.std.specs.Prelude.{◌≡◌, ◌↔◌, ◌+◌, ◌-◌, ◌≤◌, ◌<◌, ◌^◌, ℕ, List, length, IsTrue, IfOk, IfSome};
-ghost use Rattle.logic_semantics.specs.Ranges.{IsInRange};
+ghost use Rattle.viz_base.specs.Worlds.{IsInRange, world_count};
 ghost use Rattle.cert_text.specs.declared.certificate.CertNode.TheVariants.{Grid};
 ghost use Rattle.cert_text.specs.Texts.{CertText};
-ghost use Rattle.viz_base.specs.Worlds.{world_count};
 ghost use Rattle.cert_check.specs.Truths.{Holds};
 ghost use Rattle.prove_search.specs.Outcomes.{IsViolation, IsOutcome, IsProof, Decides, has_lemma};
 ghost use Rattle.prove_search.specs.steps.Turns.{AreLeft, IsWithinBounds};
 
 use crate::outcome::Outcome;
 use crate::plain::MOST_WORLDS;
-use cert_check::{Reject, Verdict, check, holds_at, world_count};
+use cert_check::{Reject, Verdict, check, holds_at};
 use cert_lemmas::with_lemmas;
 use cert_text::{Cert, CertNode, has_spelling, write_cert};
 use path_search::Finding;
 use std::alloc::Global;
-use viz_base::{Job, Mem, Rect, World};
+use viz_base::{Job, Mem, Rect, World, lies_in, world_count};
 
 /// The most bytes that a certificate's text may have: 64 MiB.
 pub const MOST_BYTES: u64 = 1 << 26;
@@ -169,16 +168,6 @@ fn proved(
         }
     }
     gated(alloc, job, cert, turns, most)
-}
-
-/// Whether a world lies in a rectangle.
-fn lies_in(rect: Rect, world: World) -> bool
-    ensures { IsTrue result ↔ IsInRange rect world }
-{
-    let is_wide = rect.wl <= world.w && world.w <= rect.wh;
-    let is_sized = rect.sl <= world.s && world.s <= rect.sh;
-    let is_high = rect.hl <= world.h && world.h <= rect.hh;
-    is_wide && is_sized && is_high
 }
 
 /// Whether a job's formula is false at a world of its range. The only fault is want of memory.

@@ -1,22 +1,21 @@
 ghost use Rattle.std.specs.Prelude.{◌≡◌, ◌*◌, ◌+◌, ◌<◌, ◌≤◌, IsTrue, IfOk};
 ghost use Rattle.cert_text.specs.declared.certificate.CertNode.TheVariants.{Split};
 ghost use Rattle.cert_text.specs.Texts.{job_has_text};
-ghost use Rattle.cert_check.specs.Rectangles.{IsProper};
-ghost use Rattle.cert_check.specs.Rectangles.{IsWithin};
+ghost use Rattle.viz_base.specs.Rectangles.{IsProper, IsWithin};
 ghost use Rattle.viz_base.specs.Worlds.{world_count};
 ghost use Rattle.cert_check.specs.Truths.{Holds};
 ghost use Rattle.prove_search.specs.steps.Finds.{IsFinding};
-ghost use Rattle.cert_check.specs.Halves.{row_up_to};
+ghost use Rattle.cert_path.specs.Units.{row_up_to};
 ghost use Rattle.prove_search.specs.Outcomes.{IsOutcome, Decides, plain_most};
 ghost use Rattle.prove_search.specs.declared.outcome.Outcome.TheVariants.{Undecided};
 
 use crate::outcome::Outcome;
-use cert_check::{first_untrue, halves_of, world_count};
+use cert_check::first_untrue;
 use cert_path::variable_of;
 use cert_text::{Cert, CertNode};
 use lin_row::Row;
 use std::alloc::Global;
-use viz_base::{Axis, Boxed, Job, Mem, Rect, World};
+use viz_base::{Axis, Boxed, Job, Mem, Rect, World, halves_of, world_count};
 
 /// The most worlds of a part that is gone through.
 pub const MOST_WORLDS: u64 = 64;

@@ -8,9 +8,8 @@ use Rattle.viz_base.specs.declared.worlds.Axis.{Axis}
 use Rattle.viz_base.specs.declared.worlds.Axis.TheVariants.{Width, Size, Height}
 use Rattle.viz_base.specs.declared.worlds.Span.{Span}
 use Rattle.viz_base.specs.declared.worlds.Rect.{Rect}
-use Rattle.viz_base.specs.Worlds.{along, side_of}
+use Rattle.viz_base.specs.Worlds.{along, side_of, IsInRange}
 use Rattle.viz_base.specs.Jobs.{IsFormed}
-use Rattle.logic_semantics.specs.Ranges.{IsInRange}
 use Rattle.lin_row.specs.Form.{Form, denied}
 use Rattle.lin_proof.specs.Derivations.{are_declared}
 use Rattle.cert_path.specs.Axes.{variable_of, axes, axis_count}

@@ -35,3 +35,12 @@ span_count side = side.most + 1 - side.least
 abbrev pub world_count : Rect → ℕ
 world_count r =
     span_count (side_of Width r) * span_count (side_of Size r) * span_count (side_of Height r)
+
+-- the world is in the range, both ends of each side included
+pub record IsInRange (range : Rect) (world : World) : Type 0 where
+  pub width_least : range.wl ≤ world.w
+  pub width_most : world.w ≤ range.wh
+  pub size_least : range.sl ≤ world.s
+  pub size_most : world.s ≤ range.sh
+  pub height_least : range.hl ≤ world.h
+  pub height_most : world.h ≤ range.hh

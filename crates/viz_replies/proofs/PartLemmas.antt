@@ -8,7 +8,7 @@ use Rattle.viz_base.specs.declared.jobs.Job.{Job}
 use Rattle.viz_base.specs.declared.worlds.Rect.{Rect}
 use Rattle.viz_base.specs.declared.worlds.World.{World}
 use Rattle.viz_base.proofs.Sameness.{same_Ok}
-use Rattle.logic_semantics.specs.Ranges.{IsInRange}
+use Rattle.viz_base.specs.Worlds.{IsInRange}
 use Rattle.cert_check.specs.Truths.{Holds, is_true_at}
 use Rattle.page_json.specs.Jobs.{Raw, raw_job}
 use Rattle.page_build.specs.Jobs.{AreBuilt, IsJobAt}

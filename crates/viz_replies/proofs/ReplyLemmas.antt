@@ -5,7 +5,7 @@ use Rattle.std.specs.List.{AllByRecursion}
 use Rattle.viz_base.specs.declared.jobs.Job.{Job}
 use Rattle.viz_base.specs.declared.worlds.World.{World}
 use Rattle.viz_base.proofs.Sameness.{no_Ok, same_Ok}
-use Rattle.logic_semantics.specs.Ranges.{IsInRange}
+use Rattle.viz_base.specs.Worlds.{IsInRange}
 use Rattle.cert_text.specs.declared.certificate.Cert.{Cert}
 use Rattle.cert_check.specs.Truths.{is_true_at}
 use Rattle.cert_check.specs.declared.verdicts.Reject.{Reject}

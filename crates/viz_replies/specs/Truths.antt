@@ -3,7 +3,7 @@
 use Rattle.std.specs.Prelude.{◌≡◌, ℕ, List, true, false, Ok}
 use Rattle.viz_base.specs.declared.jobs.Job.{Job}
 use Rattle.viz_base.specs.declared.worlds.World.{World}
-use Rattle.logic_semantics.specs.Ranges.{IsInRange}
+use Rattle.viz_base.specs.Worlds.{IsInRange}
 use Rattle.page_json.specs.Jobs.{Raw, raw_job}
 use Rattle.cert_check.specs.Truths.{is_true_at}
 use Rattle.viz_replies.specs.Jobs.{SpellsJobAt}

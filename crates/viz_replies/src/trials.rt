@@ -13,10 +13,9 @@ use crate::lines::{push_line, push_number};
 use crate::question::Sections;
 use crate::reply::{Answer, Reply};
 use crate::searches::{Found, search};
-use cert_check::world_count;
 use page_gen::{GenFault, generate};
 use std::alloc::Global;
-use viz_base::{Job, Mem};
+use viz_base::{Job, Mem, world_count};
 
 /// The text of the job that a seed tells.
 fn generated(alloc: Global, seed: u64, sections: Sections) -> Result<Vec<u8>, Mem>

@@ -5,7 +5,7 @@ use Rattle.std.specs.Prelude.{nat_le, replicate}
 use Rattle.viz_base.specs.declared.jobs.Job.{Job}
 use Rattle.viz_base.specs.declared.worlds.Rect.{Rect}
 use Rattle.viz_base.specs.declared.worlds.World.{World}
-use Rattle.logic_semantics.specs.Ranges.{IsInRange}
+use Rattle.viz_base.specs.Worlds.{IsInRange}
 use Rattle.cert_check.specs.Truths.{is_true_at}
 use Rattle.viz_survey.specs.declared.searching.Stretch.{Stretch}
 use Rattle.viz_survey.specs.declared.words.Word.{Word}

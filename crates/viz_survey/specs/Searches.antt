@@ -5,9 +5,8 @@ use Rattle.viz_base.specs.Jobs.{IsRange}
 use Rattle.viz_base.specs.declared.jobs.Job.{Job}
 use Rattle.viz_base.specs.declared.worlds.Rect.{Rect}
 use Rattle.viz_base.specs.declared.worlds.World.{World}
-use Rattle.viz_base.specs.Worlds.{world_count}
-use Rattle.logic_semantics.specs.Ranges.{IsInRange}
-use Rattle.cert_check.specs.Halves.{middle}
+use Rattle.viz_base.specs.Worlds.{world_count, IsInRange}
+use Rattle.viz_base.specs.Halves.{middle}
 use Rattle.cert_check.specs.Truths.{is_true_at}
 use Rattle.page_parts.specs.Parts.{are_true_at}
 use Rattle.prove_search.specs.declared.outcome.Outcome.{Outcome}

@@ -3,8 +3,7 @@ use Rattle.std.specs.Prelude.{◌≡◌, ◌≢◌, ℕ, suc, ◌+◌, ◌*◌, 
 use Rattle.viz_base.specs.declared.worlds.Axis.TheVariants.{Height, Size}
 use Rattle.viz_base.specs.declared.worlds.Rect.{Rect}
 use Rattle.viz_base.specs.declared.worlds.World.{World}
-use Rattle.viz_base.specs.Worlds.{side_of, span_count}
-use Rattle.logic_semantics.specs.Ranges.{IsInRange}
+use Rattle.viz_base.specs.Worlds.{side_of, span_count, IsInRange}
 use Rattle.viz_survey.specs.declared.words.Word.{Word}
 use Rattle.viz_survey.specs.declared.words.Word.TheVariants.{Holds, Fails, Undecided}
 use Rattle.viz_survey.specs.declared.words.Line.{Line}

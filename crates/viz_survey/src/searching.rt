@@ -1,14 +1,14 @@
 //! The widths of a range from one on of which the same is said.
 ghost use Rattle.std.specs.Prelude.{◌≡◌, ◌≤◌, ◌<◌, ℕ, false, IfOk, IfSome};
-ghost use Rattle.logic_semantics.specs.Ranges.{IsInRange};
+ghost use Rattle.viz_base.specs.Worlds.{IsInRange};
 ghost use Rattle.cert_check.specs.Truths.{is_true_at};
 ghost use Rattle.viz_survey.specs.Searches.{IsFound, IsSought, IsStretch, IsTried, at_width, found_of, left_open, part_of};
 
 use crate::words::Word;
-use cert_check::{holds_at, middle};
+use cert_check::holds_at;
 use prove_search::{Outcome, prove_within};
 use std::alloc::Global;
-use viz_base::{Job, Mem, Rect, World};
+use viz_base::{Job, Mem, Rect, World, middle};
 
 /// The most bytes of a certificate that a search may find; none is kept.
 const MOST_BYTES: u64 = 67_108_864;

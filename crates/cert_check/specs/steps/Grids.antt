@@ -12,8 +12,8 @@ use Rattle.viz_base.specs.declared.jobs.Job.{Job}
 use Rattle.viz_base.specs.Worlds.{along}
 use Rattle.cert_path.specs.Axes.{axes}
 use Rattle.cert_path.specs.Rectangles.{Sides, whole}
-use Rattle.cert_check.specs.Rectangles.{is_unit}
-use Rattle.cert_check.specs.Rectangles.{IsProper}
+use Rattle.cert_path.specs.Units.{is_unit}
+use Rattle.viz_base.specs.Rectangles.{IsProper}
 use Rattle.cert_check.specs.steps.Worlds.{is_untrue}
 use Rattle.cert_check.specs.declared.descent.Above.{Above}
 use Rattle.cert_check.specs.declared.descent.Above.TheVariants.{Def, First, Second, Lemma}

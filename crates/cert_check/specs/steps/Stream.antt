@@ -23,7 +23,7 @@ use Rattle.cert_check.specs.declared.visits.Last.{Last}
 use Rattle.cert_check.specs.declared.visits.Last.TheVariants as of_last
 use Rattle.cert_check.specs.declared.visits.Pending.{Pending}
 use Rattle.cert_check.specs.declared.visits.Visits.{Visits}
-use Rattle.cert_check.specs.Rectangles.{IsWithin}
+use Rattle.viz_base.specs.Rectangles.{IsWithin}
 use Rattle.cert_check.specs.Verdicts.{Passes, IsCause, IsVerdict}
 use Rattle.cert_check.specs.steps.Tells.{AllGood}
 use Rattle.cert_check.specs.steps.Grids.{IsPart}

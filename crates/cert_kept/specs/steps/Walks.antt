@@ -6,7 +6,7 @@ use Rattle.lin_row.specs.Form.{Form}
 use Rattle.cert_path.specs.Nodes.{nodes_from}
 use Rattle.cert_path.specs.Paths.{Step, first, second, Path, ◌▸◌, variables}
 use Rattle.cert_path.specs.Rectangles.{rectangle}
-use Rattle.cert_check.specs.Rectangles.{IsWithin}
+use Rattle.viz_base.specs.Rectangles.{IsWithin}
 use Rattle.cert_check.specs.declared.descent.Descent.{Descent}
 use Rattle.cert_check.specs.steps.Grids.{IsPart}
 use Rattle.cert_check.specs.steps.Ways.{path_at}

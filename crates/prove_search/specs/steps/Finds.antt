@@ -10,7 +10,7 @@ use Rattle.cert_text.specs.Texts.{node_text, node_has_text}
 use Rattle.cert_path.specs.Paths.{Path, form_of}
 use Rattle.cert_path.specs.Rectangles.{whole, rectangle}
 use Rattle.cert_path.specs.Nodes.{nodes_from}
-use Rattle.cert_check.specs.Rectangles.{AreUnits}
+use Rattle.cert_path.specs.Units.{AreUnits}
 use Rattle.cert_check.specs.Truths.{IsTrueIn}
 use Rattle.cert_check.specs.Right.{IsGood}
 use Rattle.prove_search.specs.declared.plain.Closed.{Closed}

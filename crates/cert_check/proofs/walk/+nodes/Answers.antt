@@ -13,9 +13,10 @@ use Rattle.cert_path.specs.Facts.{facts}
 use Rattle.cert_path.specs.Rectangles.{rectangle}
 use Rattle.cert_path.specs.Nodes.{names, splits, states, node_on, nodes_from}
 use Rattle.cert_path.specs.Shapes.{has_variable}
-use Rattle.cert_check.specs.declared.cuts.Child.TheVariants.{First, Second}
+use Rattle.viz_base.specs.declared.rectangles.Child.TheVariants.{First, Second}
 use Rattle.cert_check.specs.declared.descent.Above.{Above}
-use Rattle.cert_check.specs.Rectangles.{IsWithin, cut_of, cut_at}
+use Rattle.viz_base.specs.Rectangles.{IsWithin}
+use Rattle.cert_path.specs.Units.{cut_of, cut_at}
 use Rattle.cert_check.specs.steps.Grids.{IsPart}
 use Rattle.cert_check.specs.steps.Descent.{path_of}
 use Rattle.cert_check.specs.steps.Ways.{path_at}

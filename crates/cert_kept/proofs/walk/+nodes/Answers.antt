@@ -9,7 +9,7 @@ use Rattle.cert_text.specs.Nodes.{node_count}
 use Rattle.cert_path.specs.Nodes.{splits}
 use Rattle.cert_path.specs.Paths.{def, first, second, lemma, is_declared}
 use Rattle.cert_path.specs.Shapes.{has_variable, is_shaped}
-use Rattle.cert_check.specs.declared.cuts.Child.TheVariants.{First, Second}
+use Rattle.viz_base.specs.declared.rectangles.Child.TheVariants.{First, Second}
 use Rattle.cert_check.specs.steps.Ways.{path_at}
 use Rattle.cert_check.proofs.Tellings.{count-Def, count-Split, count-Lemma}
 use Rattle.cert_kept.specs.Kept.{is_firm}

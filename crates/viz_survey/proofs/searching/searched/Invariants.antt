@@ -1,5 +1,5 @@
 use Rattle.std.proofs.Common.{◌≡◌, ◌≤◌}
-use Rattle.logic_semantics.specs.Ranges.{IsInRange}
+use Rattle.viz_base.specs.Worlds.{IsInRange}
 use Rattle.viz_survey.proofs.searching.searched.Given as goal
 
 abbrev pub invariant-loop-stretch : goal.invariant-loop-stretch

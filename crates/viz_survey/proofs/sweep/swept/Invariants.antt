@@ -1,5 +1,5 @@
 use Rattle.std.proofs.Common.{◌≡◌, ◌+◌, ◌-◌, length}
-use Rattle.logic_semantics.specs.Ranges.{IsInRange}
+use Rattle.viz_base.specs.Worlds.{IsInRange}
 use Rattle.cert_check.specs.Truths.{is_true_at}
 use Rattle.viz_survey.specs.Words.{AreRight}
 use Rattle.viz_survey.proofs.sweep.swept.Given as goal

@@ -6,10 +6,10 @@ use Rattle.viz_base.specs.declared.jobs.Job.{Job}
 use Rattle.cert_path.specs.Paths.{form_of, is_declared}
 use Rattle.cert_path.specs.Shapes.{has_variable}
 use Rattle.cert_path.specs.Nodes.{splits, node_on}
-use Rattle.cert_check.specs.declared.cuts.Child.TheVariants.{First}
+use Rattle.viz_base.specs.declared.rectangles.Child.TheVariants.{First}
 use Rattle.cert_check.specs.declared.visits.Pending.{Pending}
 use Rattle.cert_check.specs.declared.visits.Visits.{Visits}
-use Rattle.cert_check.specs.Rectangles.{cut_of, cut_at}
+use Rattle.cert_path.specs.Units.{cut_of, cut_at}
 use Rattle.cert_check.specs.steps.Ways.{path_at}
 use Rattle.cert_check.proofs.Descents.{form_is}
 use Rattle.cert_check.proofs.Judging.{is_judged}

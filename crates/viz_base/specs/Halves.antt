@@ -1,13 +1,11 @@
 -- The halves of a rectangle.
-use Rattle.std.specs.Prelude.{ℕ, ◌+◌, ◌-◌, ◌/◌, nat_le, pos, negsuc, [], ◌∷◌, if◌then◌else◌}
+use Rattle.std.specs.Prelude.{ℕ, ◌+◌, ◌-◌, ◌/◌, nat_le, if◌then◌else◌}
 use Rattle.viz_base.specs.declared.worlds.Axis.{Axis}
 use Rattle.viz_base.specs.declared.worlds.Axis.TheVariants.{Width, Size, Height}
 use Rattle.viz_base.specs.declared.worlds.Span.{Span}
 use Rattle.viz_base.specs.declared.worlds.Rect.{Rect}
 use Rattle.viz_base.specs.Worlds.{side_of, with_side}
-use Rattle.lin_row.specs.Form.{Form}
-use Rattle.cert_path.specs.Axes.{variable_of}
-use Rattle.cert_check.specs.declared.halves.Halves.{Halves}
+use Rattle.viz_base.specs.declared.halves.Halves.{Halves}
 
 -- the number in the middle of others, the lower one of two
 abbrev pub middle : ℕ → ℕ → ℕ
@@ -19,10 +17,6 @@ up_to side m = record { least = side.least; most = m }
 
 abbrev pub above : Span → ℕ → Span
 above side m = record { least = m + 1; most = side.most }
-
--- the row that is at least 0 where a world is at most a number on an axis
-abbrev pub row_up_to : Axis → ℕ → Form
-row_up_to axis m = record { k = pos m; terms = (variable_of axis, negsuc 0) ∷ [] }
 
 abbrev pub halves_at : Axis → Rect → ℕ → Halves
 halves_at axis r m = record {

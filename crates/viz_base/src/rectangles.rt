@@ -1,11 +1,9 @@
-ghost use Rattle.std.specs.Prelude.{◌≡◌, ◌^◌, ◌<◌, ◌≤◌, Some, None, IfSome, OnSome};
-ghost use Rattle.std.specs.Option.{option_map};
-ghost use Rattle.viz_base.specs.Worlds.{side_of, span_count, with_side, world_count};
-ghost use Rattle.cert_check.specs.Rectangles.{coefficient_cut, cut_of, at_most, above, cut_side, toward, part_of};
+//! Rectangles of worlds: how many they have, which lie in them, and what cuts leave of them.
+ghost use Rattle.std.specs.Prelude.{◌≡◌, ◌↔◌, ◌^◌, ◌<◌, ◌≤◌, IsTrue};
+ghost use Rattle.viz_base.specs.Worlds.{IsInRange, span_count, world_count};
+ghost use Rattle.viz_base.specs.Rectangles.{at_most, above, cut_side, toward, part_of};
 
-use cert_path::axis_of;
-use lin_row::Row;
-use viz_base::{Axis, Rect, Span};
+use crate::{Axis, Rect, Span, World};
 
 /// How many numbers a span has; none where the least is above the most.
 fn span_count(side: Span) -> u64
@@ -27,6 +25,16 @@ pub fn world_count(rect: Rect) -> u64
     let sizes = span_count(rect.side(Axis::Size));
     let heights = span_count(rect.side(Axis::Height));
     widths * sizes * heights
+}
+
+/// Whether a world lies in a rectangle.
+pub fn lies_in(rect: Rect, world: World) -> bool
+    ensures { IsTrue result ↔ IsInRange rect world }
+{
+    let is_wide = rect.wl <= world.w && world.w <= rect.wh;
+    let is_sized = rect.sl <= world.s && world.s <= rect.sh;
+    let is_high = rect.hl <= world.h && world.h <= rect.hh;
+    is_wide && is_sized && is_high
 }
 
 /// One of a split's two children.
@@ -56,35 +64,6 @@ pub struct Cut {
     pub opens: Opens,
     /// The bound, any number of `i128`.
     pub bound: i128,
-}
-
-/// Where `k + coefficient * number` is at least 0 for the number on the axis, the coefficient being 1 or -1.
-fn coefficient_cut(k: i128, axis: Axis, coefficient: i128) -> Option<Cut>
-    ensures { result ≡ coefficient_cut k axis coefficient }
-{
-    match coefficient {
-        1 => Some(Cut {
-            axis,
-            opens: Opens::Above,
-            bound: -1 - k,
-        }),
-        -1 => Some(Cut {
-            axis,
-            opens: Opens::UpTo,
-            bound: k,
-        }),
-        _ => None,
-    }
-}
-
-/// Where a unit row is at least 0, in a job of a form; None of another row.
-pub fn cut_of(form: u8, row: &Row) -> Option<Cut>
-    ensures { result ≡ cut_of form row.now }
-{
-    match row.terms.as_slice() {
-        [term] => coefficient_cut(row.k, axis_of(form, term.0)?, term.1),
-        _ => None,
-    }
 }
 
 /// The numbers of a side that are at most the bound.

@@ -1,8 +1,8 @@
 ghost use Rattle.std.specs.Prelude.{◌≡◌, ◌<◌, ◌≤◌, ◌^◌, max};
-ghost use Rattle.cert_check.specs.Rectangles.{IsProper};
-ghost use Rattle.cert_check.specs.Halves.{middle, length_on, longer_of, longest_axis, halves_at, halves_of};
+ghost use Rattle.viz_base.specs.Rectangles.{IsProper};
+ghost use Rattle.viz_base.specs.Halves.{middle, length_on, longer_of, longest_axis, halves_at, halves_of};
 
-use viz_base::{Axis, Rect, Span};
+use crate::{Axis, Rect, Span};
 
 /// A rectangle in two: the worlds that are at most the middle on an axis, and those that are above it.
 #[derive(Drop)]
