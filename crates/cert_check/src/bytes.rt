@@ -162,8 +162,8 @@ pub fn check_bytes(alloc: Global, job: &Job, bytes: &[u8]) -> Result<BytesVerdic
     ensures verdict { IfOk result (λ verdict. IsBytesVerdict job.now bytes.now verdict) }
     ensures exact { IfOk result (λ verdict. (cert : Cert) → CertText cert bytes.now
         → IsPlainlyComputed job.now cert → (verdict ≡ Accepted) ↔ Right job.now cert) }
-    ensures units { IfOk result (λ verdict. (cert : Cert) → CertText cert bytes.now → AreUnitsAndGrids job.now cert
-        → (verdict ≡ Accepted) ↔ Right job.now cert) }
+    ensures units { IfOk result (λ verdict. (cert : Cert) → CertText cert bytes.now
+        → AreUnitsAndGrids job.now cert → (verdict ≡ Accepted) ↔ Right job.now cert) }
     ensures holds { IfOk result (λ verdict. verdict ≡ Accepted → Holds job.now) }
 {
     match check_front(alloc, job, bytes)? {

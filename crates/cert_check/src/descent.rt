@@ -99,7 +99,8 @@ impl<'a> Descent<'a> {
     /// Goes below a well shaped def.
     #[inline(never)]
     pub fn enter_def(&mut self, row: &Row, by: i128) -> Result<(), Mem>
-        requires shaped { IsTrue (is_shaped self.old.job.now.range (path_at self.old) (names row.now by)) }
+        requires shaped { IsTrue (is_shaped self.old.job.now.range (path_at self.old)
+            (names row.now by)) }
         requires room { variables (path_at self.old) < 2 ^ 32 }
         ensures job { OnOk result (self.new.job.now ≡ self.old.job.now) }
         ensures above { OnOk result (path_at self.new ≡ def row.now by ▸ path_at self.old) }

@@ -1,8 +1,8 @@
 ghost use Rattle.std.specs.Prelude.{◌≡◌, ◌<◌, true, Ok, Some, None, IsTrue, IfOk, IfErr, IfSome, OnOk};
 ghost use Rattle.std.specs.Bool.{Decides};
 ghost use Rattle.viz_base.specs.Numbers.{Rose};
+ghost use Rattle.viz_calc.specs.State.{Grows, is_told, WhereOpen};
 ghost use Rattle.viz_calc.specs.World.{Reading};
-ghost use Rattle.viz_calc.specs.State.{Grows, is_told};
 ghost use Rattle.sym_calc.specs.Calc.{state_of};
 ghost use Rattle.logic_semantics.specs.Ranges.{holds_at};
 ghost use Rattle.cert_check.specs.Truths.{is_true_at, rendering_of};
@@ -35,8 +35,8 @@ fn laid_out(alloc: Global, job: &Job, f: &Formula, sym: &mut Sym<'_>) -> Result<
 /// asked first: where one is false, no page is laid out. A halt is counted by the calc, unless for want of memory.
 fn truth_over(alloc: Global, job: &Job, sym: &mut Sym<'_>) -> Result<bool, Halt>
     ensures grows { Grows (state_of sym.old) (state_of sym.new) }
-    ensures value { IfOk result (λ yes. (e : Reading) → IsTrue ((state_of sym.new).is_open e)
-        → yes ≡ is_true_at job.now e.world) }
+    ensures value { IfOk result (λ yes. WhereOpen (state_of sym.new).is_open
+        (λ e. yes ≡ is_true_at job.now e.world)) }
     ensures told { IfErr result (λ halt. IsTrue (is_told true (state_of sym.new) (Some halt))) }
 {
     match conclusion(alloc, sym, &job.formula) {
@@ -74,9 +74,11 @@ fn judge_leaf(
     sym: &mut Sym<'_>,
 ) -> Result<Option<Verdict>, Mem>
     ensures verdict { IfOk result (λ judged. IfSome judged (λ verdict. (path : Path)
-        → StandsOver job.now.range path sym.old → IsLeafVerdict job.now node path sym.old.tape.now verdict)) }
+        → StandsOver job.now.range path sym.old
+        → IsLeafVerdict job.now node path sym.old.tape.now verdict)) }
     ensures grows { Grows (state_of sym.old) (state_of sym.new) }
-    ensures told { IfOk result (λ judged. IfSome judged (IsTold job.now node sym.old sym.new sym.new.trouble)) }
+    ensures told { IfOk result (λ judged. IfSome judged
+        (IsTold job.now node sym.old sym.new sym.new.trouble)) }
     ensures right { TakesRight job.now.range sym.old sym.new }
     ensures untroubled { result ≡ Ok None → sym.new.trouble ≡ None }
     ensures counted { result ≡ Ok None → 0 < sym.new.coeffs }

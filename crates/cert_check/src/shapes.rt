@@ -48,8 +48,8 @@ fn is_declared(row: &Row, variables: u32) -> bool
 
 /// Whether a def's row has a variable, and only those below this number, and its numbers are as its divisor asks.
 fn has_fit_numbers(row: &Row, variables: u32, by: i128) -> bool
-    ensures { result ≡ (are_declared variables row.now.terms && has_variable row.now && lt_z (pos 1) by
-        && has_remainders by row.now) }
+    ensures { result ≡ (are_declared variables row.now.terms && has_variable row.now && lt_z
+        (pos 1) by && has_remainders by row.now) }
 {
     is_declared(row, variables) && 1 < by && has_remainders(by, row)
 }

@@ -84,7 +84,8 @@ impl<'a> Visits<'a> {
         requires turns { CanTurn self.old (number + 1) }
         ensures next { IfOk result (λ next. next ≡ number + 1) }
         ensures job { OnOk result (self.new.descent.job.now ≡ self.old.descent.job.now) }
-        ensures due { IfOk result (λ next. IsDue self.new next (seconds (path_at self.old.descent))) }
+        ensures due { IfOk result (λ next. IsDue self.new next
+            (seconds (path_at self.old.descent))) }
     {
         while let Some(last) = last_of(&self.descent) {
             match last {
@@ -103,7 +104,8 @@ impl<'a> Visits<'a> {
         requires turns { CanTurn self.old (number + 1) }
         ensures next { IfOk result (λ next. next ≡ number + 1) }
         ensures job { OnOk result (self.new.descent.job.now ≡ self.old.descent.job.now) }
-        ensures due { IfOk result (λ next. IsDue self.new next (seconds (path_at self.old.descent))) }
+        ensures due { IfOk result (λ next. IsDue self.new next
+            (seconds (path_at self.old.descent))) }
     {
         let Some(Pending { row, part }) = self.pending.pop() else {
             unreachable!()
@@ -122,7 +124,8 @@ impl<'a> Visits<'a> {
             → Tells job (node ∷ []) number result }
         ensures next { IfOk result (λ next. next ≡ number + 1) }
         ensures job { OnOk result (self.new.descent.job.now ≡ self.old.descent.job.now) }
-        ensures due { IfOk result (λ next. IsDue self.new next (seconds (path_at self.old.descent))) }
+        ensures due { IfOk result (λ next. IsDue self.new next
+            (seconds (path_at self.old.descent))) }
     {
         match found {
             Ok(()) => Ok(self.turn(number)?),
@@ -133,10 +136,12 @@ impl<'a> Visits<'a> {
     fn visit_def(&mut self, alloc: Global, row: &Row, by: i128, number: u32) -> Result<u32, Stop>
         requires few { number + 1 + axis_count self.old.descent.job.now.form < 2 ^ 32 }
         requires ready { IsReady self.old number }
-        ensures tells { Tells self.old.descent.job.now (nodes_here self.old (of_piece.Def row.now by)) number result }
+        ensures tells { Tells self.old.descent.job.now
+            (nodes_here self.old (of_piece.Def row.now by)) number result }
         ensures next { IfOk result (λ next. next ≡ number + 1) }
         ensures job { OnOk result (self.new.descent.job.now ≡ self.old.descent.job.now) }
-        ensures due { IfOk result (λ next. IsDue self.new next (due_behind self.old (of_piece.Def row.now by))) }
+        ensures due { IfOk result (λ next. IsDue self.new next
+            (due_behind self.old (of_piece.Def row.now by))) }
     {
         check_def(alloc, &self.descent, number, row, by)?;
         self.descent.enter_def(row, by)?;
@@ -146,10 +151,12 @@ impl<'a> Visits<'a> {
     fn visit_split(&mut self, alloc: Global, row: Row, number: u32) -> Result<u32, Stop>
         requires few { number + 1 + axis_count self.old.descent.job.now.form < 2 ^ 32 }
         requires ready { IsReady self.old number }
-        ensures tells { Tells self.old.descent.job.now (nodes_here self.old (of_piece.Split row)) number result }
+        ensures tells { Tells self.old.descent.job.now
+            (nodes_here self.old (of_piece.Split row)) number result }
         ensures next { IfOk result (λ next. next ≡ number + 1) }
         ensures job { OnOk result (self.new.descent.job.now ≡ self.old.descent.job.now) }
-        ensures due { IfOk result (λ next. IsDue self.new next (due_behind self.old (of_piece.Split row))) }
+        ensures due { IfOk result (λ next. IsDue self.new next
+            (due_behind self.old (of_piece.Split row))) }
     {
         check_split(alloc, &self.descent, number, &row)?;
         self.descent.enter_first(&row)?;
@@ -172,7 +179,8 @@ impl<'a> Visits<'a> {
             (nodes_here self.old (of_piece.Lemma row.now why.now)) number result }
         ensures next { IfOk result (λ next. next ≡ number + 1) }
         ensures job { OnOk result (self.new.descent.job.now ≡ self.old.descent.job.now) }
-        ensures due { IfOk result (λ next. IsDue self.new next (due_behind self.old (of_piece.Lemma row.now why.now))) }
+        ensures due { IfOk result (λ next. IsDue self.new next
+            (due_behind self.old (of_piece.Lemma row.now why.now))) }
     {
         check_lemma(alloc, &self.descent, number, row, why)?;
         self.descent.enter_lemma(row)?;
@@ -182,10 +190,12 @@ impl<'a> Visits<'a> {
     fn visit_void(&mut self, alloc: Global, why: &Derivation, number: u32) -> Result<u32, Stop>
         requires few { number + 1 + axis_count self.old.descent.job.now.form < 2 ^ 32 }
         requires ready { IsReady self.old number }
-        ensures tells { Tells self.old.descent.job.now (nodes_here self.old (of_piece.Void why.now)) number result }
+        ensures tells { Tells self.old.descent.job.now
+            (nodes_here self.old (of_piece.Void why.now)) number result }
         ensures next { IfOk result (λ next. next ≡ number + 1) }
         ensures job { OnOk result (self.new.descent.job.now ≡ self.old.descent.job.now) }
-        ensures due { IfOk result (λ next. IsDue self.new next (due_behind self.old (of_piece.Void why.now))) }
+        ensures due { IfOk result (λ next. IsDue self.new next
+            (due_behind self.old (of_piece.Void why.now))) }
     {
         let found = check_void(alloc, &self.descent, number, why);
         self.after_end(number, found)
@@ -194,10 +204,12 @@ impl<'a> Visits<'a> {
     fn visit_grid(&mut self, alloc: Global, number: u32) -> Result<u32, Stop>
         requires few { number + 1 + axis_count self.old.descent.job.now.form < 2 ^ 32 }
         requires ready { IsReady self.old number }
-        ensures tells { Tells self.old.descent.job.now (nodes_here self.old of_piece.Grid) number result }
+        ensures tells { Tells self.old.descent.job.now
+            (nodes_here self.old of_piece.Grid) number result }
         ensures next { IfOk result (λ next. next ≡ number + 1) }
         ensures job { OnOk result (self.new.descent.job.now ≡ self.old.descent.job.now) }
-        ensures due { IfOk result (λ next. IsDue self.new next (due_behind self.old of_piece.Grid)) }
+        ensures due { IfOk result (λ next. IsDue self.new next
+            (due_behind self.old of_piece.Grid)) }
     {
         let found = check_grid(alloc, &self.descent, number, self.part);
         self.after_end(number, found)
@@ -206,10 +218,12 @@ impl<'a> Visits<'a> {
     fn visit_leaf(&mut self, alloc: Global, answers: &[Answer], number: u32) -> Result<u32, Stop>
         requires few { number + 1 + axis_count self.old.descent.job.now.form < 2 ^ 32 }
         requires ready { IsReady self.old number }
-        ensures tells { Tells self.old.descent.job.now (nodes_here self.old (of_piece.Leaf answers.now)) number result }
+        ensures tells { Tells self.old.descent.job.now
+            (nodes_here self.old (of_piece.Leaf answers.now)) number result }
         ensures next { IfOk result (λ next. next ≡ number + 1) }
         ensures job { OnOk result (self.new.descent.job.now ≡ self.old.descent.job.now) }
-        ensures due { IfOk result (λ next. IsDue self.new next (due_behind self.old (of_piece.Leaf answers.now))) }
+        ensures due { IfOk result (λ next. IsDue self.new next
+            (due_behind self.old (of_piece.Leaf answers.now))) }
     {
         let found = check_answers(alloc, &self.descent, number, answers);
         self.after_end(number, found)

@@ -75,7 +75,8 @@ pub fn child_part(form: u8, row: &Row, child: Child, part: Option<Rect>) -> Opti
 #[tactic(auto, using(crate::proofs::Judging::judged_mem))]
 /// What is found of a node that is rejected.
 fn rejected(alloc: Global, reject: Reject) -> Result<(), Stop>
-    ensures { (job : Job) (node : Node) → IsRejected job node reject → Judges job node (node_in reject) result }
+    ensures { (job : Job) (node : Node) → IsRejected job node reject
+        → Judges job node (node_in reject) result }
 {
     Err(Stop::Rejected(Boxed::new(alloc, reject)?))
 }
@@ -94,7 +95,8 @@ pub fn check_def(
     by: i128,
 ) -> Result<(), Stop>
     requires { variables (path_at descent.now) < 2 ^ 32 }
-    ensures { Judges descent.now.job.now (node_on (path_at descent.now) (names row.now by)) number result }
+    ensures { Judges descent.now.job.now
+        (node_on (path_at descent.now) (names row.now by)) number result }
 {
     if is_shaped_def(descent, row, by)? {
         Ok(())
@@ -108,7 +110,8 @@ pub fn check_def(
 #[inline(never)]
 pub fn check_split(alloc: Global, descent: &Descent<'_>, number: u32, row: &Row) -> Result<(), Stop>
     requires { variables (path_at descent.now) < 2 ^ 32 }
-    ensures { Judges descent.now.job.now (node_on (path_at descent.now) (splits row.now)) number result }
+    ensures { Judges descent.now.job.now
+        (node_on (path_at descent.now) (splits row.now)) number result }
 {
     if !is_shaped_row(descent, row) {
         return rejected(alloc, Reject::Shape(number));
@@ -161,7 +164,8 @@ pub fn check_void(
     why: &Derivation,
 ) -> Result<(), Stop>
     requires { variables (path_at descent.now) < 2 ^ 32 }
-    ensures { Judges descent.now.job.now (node_on (path_at descent.now) (is_empty why.now)) number result }
+    ensures { Judges descent.now.job.now
+        (node_on (path_at descent.now) (is_empty why.now)) number result }
 {
     if line_count(why).is_none() {
         return Err(Stop::Mem);
@@ -216,7 +220,8 @@ pub fn check_answers(
     answers: &[Answer],
 ) -> Result<(), Stop>
     requires few { variables (path_at descent.now) < 2 ^ 32 }
-    ensures { Judges descent.now.job.now (node_on (path_at descent.now) (by_answers answers.now)) number result }
+    ensures { Judges descent.now.job.now
+        (node_on (path_at descent.now) (by_answers answers.now)) number result }
 {
     let mut sym = Sym::new(descent.path(), answers);
     match check_new_leaf(alloc, descent.job(), number, &mut sym)? {
@@ -228,7 +233,8 @@ pub fn check_answers(
 /// The number after a node without children, where it is good.
 fn after_end(number: u32, found: Result<(), Stop>) -> Result<u32, Stop>
     requires { number + 1 < 2 ^ 32 }
-    ensures tells { (job : Job) (node : Node) → Judges job node number found → Tells job (node ∷ []) number result }
+    ensures tells { (job : Job) (node : Node) → Judges job node number found
+        → Tells job (node ∷ []) number result }
     ensures next { IfOk result (λ next. next ≡ number + 1) }
 {
     match found {
@@ -247,10 +253,12 @@ pub fn check_node<'a>(
     part: Option<Rect>,
 ) -> Result<u32, Stop>
     requires few { number + node_count node.now + axis_count descent.old.job.now.form < 2 ^ 32 }
-    requires variables { variables (path_at descent.old) ≤ number + axis_count descent.old.job.now.form }
+    requires variables { variables (path_at descent.old)
+        ≤ number + axis_count descent.old.job.now.form }
     requires part { IsPart part (rectangle descent.old.job.now.range (path_at descent.old)) }
     requires within { IfSome part (IsWithin descent.old.job.now.range) }
-    ensures tells { Tells descent.old.job.now (nodes_from node.now (path_at descent.old)) number result }
+    ensures tells { Tells descent.old.job.now
+        (nodes_from node.now (path_at descent.old)) number result }
     ensures next { IfOk result (λ next. next ≡ number + node_count node.now) }
     ensures job { OnOk result (descent.new.job.now ≡ descent.old.job.now) }
     ensures above { OnOk result (path_at descent.new ≡ path_at descent.old) }
@@ -307,8 +315,10 @@ fn check_below<'a>(
     part: Option<Rect>,
 ) -> Result<u32, Stop>
     requires few { number + node_count node.now + axis_count descent.old.job.now.form < 2 ^ 32 }
-    requires variables { variables (path_at descent.old) + 1 ≤ number + axis_count descent.old.job.now.form }
-    requires shaped { IsTrue (is_shaped descent.old.job.now.range (path_at descent.old) (names row.now by)) }
+    requires variables { variables (path_at descent.old) + 1
+        ≤ number + axis_count descent.old.job.now.form }
+    requires shaped { IsTrue (is_shaped descent.old.job.now.range (path_at descent.old)
+        (names row.now by)) }
     requires part { IsPart part (rectangle descent.old.job.now.range (path_at descent.old)) }
     requires within { IfSome part (IsWithin descent.old.job.now.range) }
     ensures tells { Tells descent.old.job.now
@@ -338,7 +348,8 @@ fn check_under<'a>(
     part: Option<Rect>,
 ) -> Result<u32, Stop>
     requires few { number + node_count node.now + axis_count descent.old.job.now.form < 2 ^ 32 }
-    requires variables { variables (path_at descent.old) ≤ number + axis_count descent.old.job.now.form }
+    requires variables { variables (path_at descent.old)
+        ≤ number + axis_count descent.old.job.now.form }
     requires declared { IsTrue (is_declared (path_at descent.old) row.now) }
     requires entailed { IsEntailed descent.old.job.now.range (path_at descent.old) row.now }
     requires part { IsPart part (rectangle descent.old.job.now.range (path_at descent.old)) }
@@ -370,15 +381,19 @@ fn check_parts<'a>(
     number: u32,
     part: Option<Rect>,
 ) -> Result<u32, Stop>
-    requires few { number + (node_count one.now + node_count other.now) + axis_count descent.old.job.now.form < 2 ^ 32 }
-    requires variables { variables (path_at descent.old) ≤ number + axis_count descent.old.job.now.form }
+    requires few { number +
+        (node_count one.now + node_count other.now) + axis_count descent.old.job.now.form < 2 ^ 32 }
+    requires variables { variables (path_at descent.old)
+        ≤ number + axis_count descent.old.job.now.form }
     requires declared { IsTrue (is_declared (path_at descent.old) row.now) }
     requires fits { IsTrue (form_fits (denied row.now)) }
     requires part { IsPart part (rectangle descent.old.job.now.range (path_at descent.old)) }
     requires within { IfSome part (IsWithin descent.old.job.now.range) }
-    ensures tells { Tells descent.old.job.now (nodes_from one.now (first row.now ▸ path_at descent.old)
+    ensures tells { Tells descent.old.job.now
+        (nodes_from one.now (first row.now ▸ path_at descent.old)
         ++ nodes_from other.now (second row.now ▸ path_at descent.old)) number result }
-    ensures next { IfOk result (λ next. next ≡ number + (node_count one.now + node_count other.now)) }
+    ensures next { IfOk result (λ next. next
+        ≡ number + (node_count one.now + node_count other.now)) }
     ensures job { OnOk result (descent.new.job.now ≡ descent.old.job.now) }
     ensures above { OnOk result (path_at descent.new ≡ path_at descent.old) }
 {
@@ -399,7 +414,8 @@ fn check_first<'a>(
     part: Option<Rect>,
 ) -> Result<u32, Stop>
     requires few { number + node_count node.now + axis_count descent.old.job.now.form < 2 ^ 32 }
-    requires variables { variables (path_at descent.old) ≤ number + axis_count descent.old.job.now.form }
+    requires variables { variables (path_at descent.old)
+        ≤ number + axis_count descent.old.job.now.form }
     requires declared { IsTrue (is_declared (path_at descent.old) row.now) }
     requires part { IsPart part (rectangle descent.old.job.now.range (path_at descent.old)) }
     requires within { IfSome part (IsWithin descent.old.job.now.range) }
@@ -431,7 +447,8 @@ fn check_second<'a>(
     part: Option<Rect>,
 ) -> Result<u32, Stop>
     requires few { number + node_count node.now + axis_count descent.old.job.now.form < 2 ^ 32 }
-    requires variables { variables (path_at descent.old) ≤ number + axis_count descent.old.job.now.form }
+    requires variables { variables (path_at descent.old)
+        ≤ number + axis_count descent.old.job.now.form }
     requires declared { IsTrue (is_declared (path_at descent.old) row.now) }
     requires fits { IsTrue (form_fits (denied row.now)) }
     requires part { IsPart part (rectangle descent.old.job.now.range (path_at descent.old)) }

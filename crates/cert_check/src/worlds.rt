@@ -65,7 +65,8 @@ impl Look for Untrue<'_> {
 /// false; None where it is true at each. The only fault is want of memory.
 pub fn first_untrue(alloc: Global, job: &Job, rect: Rect) -> Result<Option<World>, Mem>
     requires within { IsWithin job.now.range rect }
-    ensures { IfOk result (λ found. MatchOption found (IsTrueIn job.now rect) (IsFirstUntrueIn job.now rect)) }
+    ensures { IfOk result (λ found. MatchOption found (IsTrueIn job.now rect)
+        (IsFirstUntrueIn job.now rect)) }
 {
     first_world(&Untrue { alloc, job }, rect)
 }

@@ -37,7 +37,8 @@ fn is_good(found: Result<(), Stop>) -> Result<bool, Mem>
 pub(crate) fn is_firm_row(descent: &Descent<'_>, row: &Row) -> Result<bool, Mem>
     requires { variables (path_at descent.now) < 2 ^ 32 }
     ensures { IfOk result (λ yes. yes
-        ≡ (is_shaped descent.now.job.now.range (path_at descent.now) (splits row.now) && form_fits (denied row.now))) }
+        ≡ (is_shaped descent.now.job.now.range (path_at descent.now) (splits row.now) && form_fits
+        (denied row.now))) }
 {
     if is_shaped_row(descent, row) {
         has_denial(row)
@@ -68,7 +69,8 @@ pub(crate) fn is_good_grid(
 ) -> Result<bool, Mem>
     requires part { IsPart part (rectangle descent.now.job.now.range (path_at descent.now)) }
     requires within { IfSome part (IsWithin descent.now.job.now.range) }
-    ensures { IfOk result (IsFoundGood descent.now.job.now (node_on (path_at descent.now) by_worlds)) }
+    ensures { IfOk result (IsFoundGood descent.now.job.now
+        (node_on (path_at descent.now) by_worlds)) }
 {
     is_good(check_grid(alloc, descent, 0, part))
 }

@@ -61,7 +61,8 @@ fn keep_grid(descent: &Descent<'_>, here: Here) -> Result<Kept, Mem>
 fn keep_leaf(descent: &Descent<'_>, answers: &[Answer], here: Here) -> Result<Kept, Mem>
     requires { (more : ℕ) × IsHere descent.now here more }
     ensures { IfOk result (λ next. (so : Bool) × (next ≡ with_leaf so here.kept)
-        × IsFoundGood descent.now.job.now (node_on (path_at descent.now) (by_answers answers.now)) so) }
+        × IsFoundGood descent.now.job.now
+        (node_on (path_at descent.now) (by_answers answers.now)) so) }
 {
     let good = is_good_leaf(here.alloc, descent, answers)?;
     here.kept.with_leaf(good)
@@ -75,7 +76,8 @@ pub(crate) fn keep_node<'a>(
     here: Here,
 ) -> Result<Kept, Mem>
     requires { IsHere descent.old here (node_count node.now) }
-    ensures keeps { IfOk result (KeepsHere descent.old.job.now (path_at descent.old) node.now here.kept) }
+    ensures keeps { IfOk result (KeepsHere descent.old.job.now
+        (path_at descent.old) node.now here.kept) }
     ensures job { OnOk result (descent.new.job.now ≡ descent.old.job.now) }
     ensures above { OnOk result (path_at descent.new ≡ path_at descent.old) }
 {
@@ -110,8 +112,8 @@ fn keep_def<'a>(
     here: Here,
 ) -> Result<Kept, Mem>
     requires { IsHere descent.old here (node_count node.now + 1) }
-    ensures keeps { IfOk result (KeepsBelow descent.old.job.now (path_at descent.old) (def row.now by) node.now
-        here.kept) }
+    ensures keeps { IfOk result (KeepsBelow descent.old.job.now (path_at descent.old)
+        (def row.now by) node.now here.kept) }
     ensures job { OnOk result (descent.new.job.now ≡ descent.old.job.now) }
     ensures above { OnOk result (path_at descent.new ≡ path_at descent.old) }
 {
@@ -135,8 +137,8 @@ fn keep_lemma<'a>(
     here: Here,
 ) -> Result<Kept, Mem>
     requires { IsHere descent.old here (node_count node.now + 1) }
-    ensures keeps { IfOk result (KeepsBelow descent.old.job.now (path_at descent.old) (lemma row.now) node.now
-        here.kept) }
+    ensures keeps { IfOk result (KeepsBelow descent.old.job.now (path_at descent.old)
+        (lemma row.now) node.now here.kept) }
     ensures job { OnOk result (descent.new.job.now ≡ descent.old.job.now) }
     ensures above { OnOk result (path_at descent.new ≡ path_at descent.old) }
 {
@@ -164,8 +166,8 @@ fn keep_under<'a>(
     requires here { IsHere descent.old here (node_count node.now + 1) }
     requires firm { is_firm descent.old.job.now.range (path_at descent.old) (lemma row.now) ≡ true }
     requires entailed { IsEntailed descent.old.job.now.range (path_at descent.old) row.now }
-    ensures keeps { IfOk result (KeepsBelow descent.old.job.now (path_at descent.old) (lemma row.now) node.now
-        here.kept) }
+    ensures keeps { IfOk result (KeepsBelow descent.old.job.now (path_at descent.old)
+        (lemma row.now) node.now here.kept) }
     ensures job { OnOk result (descent.new.job.now ≡ descent.old.job.now) }
     ensures above { OnOk result (path_at descent.new ≡ path_at descent.old) }
 {
@@ -185,8 +187,8 @@ fn keep_split<'a>(
     here: Here,
 ) -> Result<Kept, Mem>
     requires { IsHere descent.old here (node_count one.now + node_count other.now + 1) }
-    ensures keeps { IfOk result (KeepsBoth descent.old.job.now (path_at descent.old) row.now one.now other.now
-        here.kept) }
+    ensures keeps { IfOk result (KeepsBoth descent.old.job.now
+        (path_at descent.old) row.now one.now other.now here.kept) }
     ensures job { OnOk result (descent.new.job.now ≡ descent.old.job.now) }
     ensures above { OnOk result (path_at descent.new ≡ path_at descent.old) }
 {
@@ -208,8 +210,8 @@ fn keep_first<'a>(
 ) -> Result<Kept, Mem>
     requires here { IsHere descent.old here (node_count node.now + 1) }
     requires firm { is_firm descent.old.job.now.range (path_at descent.old) (first row.now) ≡ true }
-    ensures keeps { IfOk result (KeepsBelow descent.old.job.now (path_at descent.old) (first row.now) node.now
-        here.kept) }
+    ensures keeps { IfOk result (KeepsBelow descent.old.job.now (path_at descent.old)
+        (first row.now) node.now here.kept) }
     ensures job { OnOk result (descent.new.job.now ≡ descent.old.job.now) }
     ensures above { OnOk result (path_at descent.new ≡ path_at descent.old) }
 {
@@ -229,9 +231,10 @@ fn keep_second<'a>(
     here: Here,
 ) -> Result<Kept, Mem>
     requires here { IsHere descent.old here (node_count node.now + 1) }
-    requires firm { is_firm descent.old.job.now.range (path_at descent.old) (second row.now) ≡ true }
-    ensures keeps { IfOk result (KeepsBelow descent.old.job.now (path_at descent.old) (second row.now) node.now
-        here.kept) }
+    requires firm { is_firm descent.old.job.now.range (path_at descent.old) (second row.now)
+        ≡ true }
+    ensures keeps { IfOk result (KeepsBelow descent.old.job.now (path_at descent.old)
+        (second row.now) node.now here.kept) }
     ensures job { OnOk result (descent.new.job.now ≡ descent.old.job.now) }
     ensures above { OnOk result (path_at descent.new ≡ path_at descent.old) }
 {

@@ -25,11 +25,13 @@ pub fn defs_by_hand()
     ensures of_floor { is_shaped range path (names (row_of (pos 1) (pos 1) 2) (pos 3)) ≡ true }
     ensures same { is_shaped range path (names width (pos 3)) ≡ false }
     ensures undeclared { is_shaped range path (names (row_of (pos 0) (pos 1) 3) (pos 3)) ≡ false }
-    ensures no_variable { is_shaped range path (names (record { k = pos 1; terms = [] }) (pos 3)) ≡ false }
+    ensures no_variable { is_shaped range path (names (record { k = pos 1; terms = [] }) (pos 3))
+        ≡ false }
     ensures by_one { is_shaped range path (names (row_of (pos 0) (pos 0) 0) (pos 1)) ≡ false }
     ensures constant { is_shaped range path (names (row_of (pos 5) (pos 1) 0) (pos 3)) ≡ false }
     ensures coefficient { is_shaped range path (names (row_of (pos 0) (pos 3) 0) (pos 3)) ≡ false }
-    ensures below_zero { is_shaped range path (names (row_of (pos 0) (negsuc 0) 0) (pos 3)) ≡ false }
+    ensures below_zero { is_shaped range path (names (row_of (pos 0) (negsuc 0) 0) (pos 3))
+        ≡ false }
 {}
 
 /// Splits there, and grids of 64 and of 68 worlds. In form 1 variable 2 is the floor, and cuts nothing.
@@ -38,7 +40,8 @@ pub fn splits_and_grids_by_hand()
     ensures undeclared { is_shaped range path (splits (row_of (pos 0) (pos 1) 3)) ≡ false }
     ensures no_variable { is_shaped range path (splits (record { k = pos 1; terms = [] })) ≡ false }
     ensures small { is_shaped range (cut_to (pos 335)) by_worlds ≡ true }
-    ensures uncut { world_count (rectangle range (first (row_of (negsuc 99) (pos 1) 2) ▸ path)) ≡ 1441 * 13 }
+    ensures uncut { world_count (rectangle range (first (row_of (negsuc 99) (pos 1) 2) ▸ path))
+        ≡ 1441 * 13 }
     ensures large { is_shaped range (cut_to (pos 336)) by_worlds ≡ false }
 {}
 

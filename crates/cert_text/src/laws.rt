@@ -8,23 +8,26 @@ ghost use Rattle.cert_text.specs.Texts.{CertText};
 
 /// Each text has one certificate.
 pub fn one_certificate()
-    ensures { (first second : Cert) (text : List ℕ) → CertText first text → CertText second text → first ≡ second }
+    ensures { (first second : Cert) (text : List ℕ) → CertText first text → CertText second text
+        → first ≡ second }
 {}
 
 /// Each certificate has at most one text.
 pub fn one_spelling()
-    ensures { (cert : Cert) (first second : List ℕ) → CertText cert first → CertText cert second → first ≡ second }
+    ensures { (cert : Cert) (first second : List ℕ) → CertText cert first → CertText cert second
+        → first ≡ second }
 {}
 
 /// No certificate's text begins another's.
 pub fn no_text_begins_another()
-    ensures { (first second : Cert) (text more : List ℕ) → CertText first text → CertText second (text ++ more)
-        → more ≡ [] }
+    ensures { (first second : Cert) (text more : List ℕ) → CertText first text
+        → CertText second (text ++ more) → more ≡ [] }
 {}
 
 /// A certificate has at most as many nodes as its text has bytes.
 pub fn no_more_nodes_than_bytes()
-    ensures { (cert : Cert) (text : List ℕ) → CertText cert text → node_count cert.root ≤ length text }
+    ensures { (cert : Cert) (text : List ℕ) → CertText cert text
+        → node_count cert.root ≤ length text }
 {}
 
 /// A reader whose bytes taken are a whole certificate's text has given that certificate's pieces, and no others.
@@ -35,7 +38,7 @@ pub fn whole_texts_are_given_whole()
 
 /// A reader answers one thing, and after none or a fault of the text the same again, but for want of memory.
 pub fn one_answer()
-    ensures { (reading one other : Reading) (given : List Piece) (first second : Result (Option Piece) CertFault)
-        → HasGiven reading given → IsNext reading first one → IsNext reading second other
-        → AreOne first one second other }
+    ensures { (reading one other : Reading) (given : List Piece)
+        (first second : Result (Option Piece) CertFault) → HasGiven reading given
+        → IsNext reading first one → IsNext reading second other → AreOne first one second other }
 {}

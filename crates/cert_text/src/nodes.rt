@@ -16,7 +16,8 @@ use viz_base::Boxed;
 /// Faults: `Mem`, want of memory; `Grammar(at)`, exactly where no certificate spells the bytes, at
 /// being the length of their longest prefix that is a prefix of some certificate's text.
 pub fn read_cert(alloc: Global, bytes: &[u8]) -> Result<Cert, CertFault>
-    ensures { MatchResult result (λ cert. CertText cert bytes.now) (λ fault. IsFault fault bytes.now) }
+    ensures { MatchResult result (λ cert. CertText cert bytes.now)
+        (λ fault. IsFault fault bytes.now) }
 {
     let mut cursor = Cursor { rest: bytes };
     match read_whole(alloc, &mut cursor) {
@@ -77,8 +78,8 @@ fn read_below(
     lines: NodeLines,
 ) -> Result<Boxed<CertNode>, Stop>
     requires { IsTrue (piece_has_text form levels (piece_of lines)) }
-    ensures { Reads result (read_below (read_node form (levels - 1)) (piece_of lines) cursor.old.rest.now)
-        cursor.new.rest.now }
+    ensures { Reads result (read_below (read_node form (levels - 1))
+        (piece_of lines) cursor.old.rest.now) cursor.new.rest.now }
 {
     match lines {
         NodeLines::Def(row, divisor) => {

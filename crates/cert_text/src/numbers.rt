@@ -49,7 +49,8 @@ fn number_on(
 ) -> Result<(u128, u8), Stop>
     requires small { least ≤ 2 ^ 64 }
     requires bound { number ≤ most }
-    ensures gives { Reads result (number_on ends least most number cursor.old.rest.now) cursor.new.rest.now }
+    ensures gives { Reads result
+        (number_on ends least most number cursor.old.rest.now) cursor.new.rest.now }
     ensures above { IfOk result (λ n. least ≤ n.0) }
     ensures bound { IfOk result (λ n. n.0 ≤ most) }
 {
@@ -90,7 +91,8 @@ fn first_digits(
     most: u128,
 ) -> Result<(u128, u8), Stop>
     requires small { least ≤ 2 ^ 64 }
-    ensures gives { Reads result (first_digits ends least most cursor.old.rest.now) cursor.new.rest.now }
+    ensures gives { Reads result
+        (first_digits ends least most cursor.old.rest.now) cursor.new.rest.now }
     ensures above { IfOk result (λ n. least ≤ n.0) }
     ensures bound { IfOk result (λ n. n.0 ≤ most) }
 {

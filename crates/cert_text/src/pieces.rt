@@ -95,7 +95,8 @@ fn read_leaf(alloc: Global, cursor: &mut Cursor) -> Result<NodeLines, Stop>
 
 /// What stands behind "le": a leaf or, where lemmas may come, a lemma.
 fn read_behind_le(alloc: Global, cursor: &mut Cursor, has_lemmas: bool) -> Result<NodeLines, Stop>
-    ensures { ReadsLines result (read_behind_le has_lemmas cursor.old.rest.now) cursor.new.rest.now }
+    ensures { ReadsLines result
+        (read_behind_le has_lemmas cursor.old.rest.now) cursor.new.rest.now }
 {
     if has_lemmas && cursor.begins(b'm') {
         read_lemma(alloc, cursor)
@@ -158,7 +159,8 @@ pub fn read_lines(
     form: u8,
     levels: u16,
 ) -> Result<NodeLines, Stop>
-    ensures gives { ReadsLines result (read_piece form levels cursor.old.rest.now) cursor.new.rest.now }
+    ensures gives { ReadsLines result
+        (read_piece form levels cursor.old.rest.now) cursor.new.rest.now }
     ensures has { IfOk result (λ lines. IsTrue (piece_has_text form levels (piece_of lines))) }
 {
     read_any(alloc, cursor, form, levels)

@@ -210,7 +210,8 @@ pub fn read_derivation(alloc: Global, cursor: &mut Cursor, cases: u8) -> Result<
 /// What stands behind "case ", where at most so many cases enclose each other below it.
 #[cycle(derivations)]
 fn read_cases(alloc: Global, cursor: &mut Cursor, cases: u8) -> Result<Ending, Stop>
-    ensures { Reads result (read_cases (read_derivation cases) cursor.old.rest.now) cursor.new.rest.now }
+    ensures { Reads result (read_cases
+        (read_derivation cases) cursor.old.rest.now) cursor.new.rest.now }
 {
     let row = read_row(alloc, cursor, false)?;
     let first = read_derivation(alloc, cursor, cases)?;

@@ -118,7 +118,8 @@ fn come_beside(
     requires siblings { AreSiblings page.now.nodes siblings.now }
     requires trimmed { AllByRecursion IsTrimmed rulesets.now }
     requires buckets { AreBuckets page.now.nodes (map rules_of rulesets.now) buckets.now }
-    ensures { IfOk result (λ come. IsBeside page.now.nodes (map rules_of rulesets.now) at node.now.body come.0 come.1) }
+    ensures { IfOk result (λ come. IsBeside page.now.nodes
+        (map rules_of rulesets.now) at node.now.body come.0 come.1) }
 {
     match &node.body {
         Body::Element(element) => {

@@ -113,7 +113,8 @@ impl<'a> Buckets<'a> {
 
     /// Whether a selector of the ruleset of this number repeats the last one.
     fn repeats_last(&self, rules: usize, ranked: &Ranked) -> bool
-        ensures { IsTrue result → RepeatsLast (map numbered self.now.candidates.items) rules ranked.now }
+        ensures { IsTrue result → RepeatsLast
+            (map numbered self.now.candidates.items) rules ranked.now }
     {
         match self.candidates.as_slice().split_last() {
             Some((last, _)) => last.rules == rules && repeats(last.ranked, ranked),
@@ -143,9 +144,11 @@ impl<'a> Buckets<'a> {
     fn add(&mut self, present: &[bool], rules: usize, ranked: &'a Ranked) -> Result<(), Mem>
         requires { length self.old.named.items ≡ 8191 }
         ensures len { length self.new.named.items ≡ 8191 }
-        ensures added { OnOk result ((nodes : Seq Node) (all : Seq Numbered) → present.now ≡ present_in nodes
+        ensures added { OnOk result ((nodes : Seq Node) (all : Seq Numbered)
+            → present.now ≡ present_in nodes
             → StandFor nodes (map numbered self.old.candidates.items) all
-            → StandFor nodes (map numbered self.new.candidates.items) (all ++ (rules, ranked.now) ∷ [])) }
+            → StandFor nodes (map numbered self.new.candidates.items)
+            (all ++ (rules, ranked.now) ∷ [])) }
         ensures stand { OnOk result (AllStand self.old → AllStand self.new) }
     {
         // In `*,*,..` each would be tried at each node; with the same specificity it adds nothing.
@@ -164,9 +167,11 @@ impl<'a> Buckets<'a> {
     fn add_group(&mut self, present: &[bool], rules: usize, group: &'a [Ranked]) -> Result<(), Mem>
         requires { length self.old.named.items ≡ 8191 }
         ensures len { length self.new.named.items ≡ 8191 }
-        ensures added { OnOk result ((nodes : Seq Node) (all : Seq Numbered) → present.now ≡ present_in nodes
+        ensures added { OnOk result ((nodes : Seq Node) (all : Seq Numbered)
+            → present.now ≡ present_in nodes
             → StandFor nodes (map numbered self.old.candidates.items) all
-            → StandFor nodes (map numbered self.new.candidates.items) (all ++ map (λ r. (rules, r)) group.now)) }
+            → StandFor nodes (map numbered self.new.candidates.items) (all ++ map
+            (λ r. (rules, r)) group.now)) }
         ensures stand { OnOk result (AllStand self.old → AllStand self.new) }
     {
         for ranked in group {

@@ -60,7 +60,8 @@ fn come_to(
     requires trimmed { AllByRecursion IsTrimmed rulesets.now }
     requires buckets { AreBuckets page.now.nodes (map rules_of rulesets.now) buckets.now }
     ensures { GivesOneOf (λ p. (p.0, p.1)) refusal_of result
-        (ByValue at (ComesTo page.now.nodes (map rules_of rulesets.now) standings.now at node.now)) }
+        (ByValue at (ComesTo page.now.nodes
+        (map rules_of rulesets.now) standings.now at node.now)) }
 {
     let outer = standing_around(standings, node.parent);
     let replaced = is_replaced(&node.body);
@@ -135,9 +136,11 @@ pub fn cascade(
     sheets: &[Sheet],
 ) -> Result<Cascaded, CascadeFault>
     requires { length texts.now ≡ length sheets.now }
-    ensures given { GivesOneOf (λ c. c.winners) refusal_of result (IsCascade page.now.nodes texts.now sheets.now) }
+    ensures given { GivesOneOf (λ c. c.winners) refusal_of result
+        (IsCascade page.now.nodes texts.now sheets.now) }
     ensures lists { IfOk result (λ c. AreWinners page.now.nodes c.winners) }
-    ensures places { IfErr result (λ fault. IfSome (refusal_of fault) (IsPlaced page.now.nodes texts.now)) }
+    ensures places { IfErr result (λ fault. IfSome (refusal_of fault)
+        (IsPlaced page.now.nodes texts.now)) }
 {
     let rulesets = read_rulesets(alloc, None, texts, sheets)?;
     let trimmed = trim(alloc, &rulesets)?;

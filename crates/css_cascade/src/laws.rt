@@ -9,13 +9,14 @@ ghost use Rattle.css_semantics.specs.PseudoCascade.{IsPseudoCascade};
 /// Law: the nodes of a page with these texts, read as these sheets, have at most one cascade, or are refused in one
 /// way.
 pub fn one_cascade()
-    ensures { (nodes : Seq Node) (texts : Seq (Seq ℕ)) (sheets : Seq Sheet) (a b : Result (Seq (Seq Setting)) Fault)
-        → IsCascade nodes texts sheets a → IsCascade nodes texts sheets b → a ≡ b }
+    ensures { (nodes : Seq Node) (texts : Seq (Seq ℕ)) (sheets : Seq Sheet)
+        (a b : Result (Seq (Seq Setting)) Fault) → IsCascade nodes texts sheets a
+        → IsCascade nodes texts sheets b → a ≡ b }
 {}
 
 /// Law: the same of the cascade of a pseudo-element.
 pub fn one_pseudo_cascade()
     ensures { (nodes : Seq Node) (texts : Seq (Seq ℕ)) (sheets : Seq Sheet) (which : Pseudo)
-        (a b : Result (Seq (Seq Setting)) Fault)
-        → IsPseudoCascade nodes texts sheets which a → IsPseudoCascade nodes texts sheets which b → a ≡ b }
+        (a b : Result (Seq (Seq Setting)) Fault) → IsPseudoCascade nodes texts sheets which a
+        → IsPseudoCascade nodes texts sheets which b → a ≡ b }
 {}

@@ -43,7 +43,8 @@ pub fn bucket_of(word: &str) -> usize
 fn pass_byte(buckets: &mut Vec<usize>, at: usize, byte: u8) -> Result<usize, Mem>
     requires { at < 8191 }
     ensures within { IfOk result (λ next. next < 8191) }
-    ensures added { IfOk result (λ next. (rest : Seq ℕ) → buckets.new.items ++ buckets_from next rest
+    ensures added { IfOk result (λ next. (rest : Seq ℕ)
+        → buckets.new.items ++ buckets_from next rest
         ≡ buckets.old.items ++ buckets_from at (byte ∷ rest)) }
 {
     if is_space(byte) {

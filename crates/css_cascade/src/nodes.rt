@@ -89,7 +89,8 @@ pub fn first_refused<'a>(
     outer: Standing,
     winners: &[&'a Claim],
 ) -> Option<&'a Claim>
-    ensures { option_map (λ c. c.now) result ≡ first_refused replaced outer (map (λ c. c.now) winners.now) }
+    ensures { option_map (λ c. c.now) result
+        ≡ first_refused replaced outer (map (λ c. c.now) winners.now) }
 {
     for winner in winners {
         let claim = *winner;
@@ -143,7 +144,8 @@ fn copied(alloc: Global, value: &Value) -> Result<Value, Mem>
 
 /// What a winner sets, unless it is refused by name.
 pub fn set_by(alloc: Global, claim: &Claim) -> Result<Option<Setting>, Mem>
-    ensures { IfOk result (λ setting. option_to_list setting ≡ set_by claim.now.prop claim.now.value) }
+    ensures { IfOk result (λ setting. option_to_list setting
+        ≡ set_by claim.now.prop claim.now.value) }
 {
     match &claim.value {
         Some(value) => Ok(Some(Setting {
@@ -161,7 +163,8 @@ fn setting_by(
     outer: Standing,
     claim: &Claim,
 ) -> Result<Option<Setting>, Mem>
-    ensures { IfOk result (λ setting. option_to_list setting ≡ settings_by replaced outer claim.now) }
+    ensures { IfOk result (λ setting. option_to_list setting
+        ≡ settings_by replaced outer claim.now) }
 {
     if is_refused(replaced, outer, claim) {
         return Ok(None);
@@ -176,7 +179,8 @@ pub fn settings_of(
     outer: Standing,
     winners: &[&Claim],
 ) -> Result<List<Setting>, Mem>
-    ensures { IfOk result (λ settings. settings ≡ settings_of replaced outer (map (λ c. c.now) winners.now)) }
+    ensures { IfOk result (λ settings. settings
+        ≡ settings_of replaced outer (map (λ c. c.now) winners.now)) }
 {
     let mut settings = List::new(alloc);
     for winner in winners {

@@ -90,7 +90,8 @@ fn keep<'a>(best: &mut Vec<Option<Applied<'a>>>, next: Applied<'a>)
 /// No winner of any property.
 pub fn no_winners<'a>(alloc: Global) -> Result<Vec<Option<Applied<'a>>>, Mem>
     ensures len { IfOk result (λ best. length best.items ≡ 40) }
-    ensures none { IfOk result (λ best. map (option_map seen) best.items ≡ map (λ p. None) properties) }
+    ensures none { IfOk result (λ best. map (option_map seen) best.items
+        ≡ map (λ p. None) properties) }
 {
     let mut best = Vec::new(alloc);
     for _slot in 0..40u32 {
@@ -116,7 +117,8 @@ pub fn keep_found<'a: 'b, 'b>(best: &mut Vec<Option<Applied<'b>>>, spec: Spec, c
     requires { length best.old.items ≡ 40 }
     ensures len { length best.new.items ≡ 40 }
     ensures kept { map (option_map seen) best.new.items
-        ≡ kept_all (map (option_map seen) best.old.items) (map (applied spec) (map (λ c. c.now) claims.now)) }
+        ≡ kept_all (map (option_map seen) best.old.items)
+        (map (applied spec) (map (λ c. c.now) claims.now)) }
 {
     for claim in claims {
         keep(

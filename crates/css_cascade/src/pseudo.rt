@@ -30,7 +30,8 @@ fn has_refused(refused: &[Option<Refused>]) -> bool
 /// The first node that is shown at which a value is refused.
 fn first_shown(refused: &[Option<Refused>], hidden: &[bool]) -> Option<(usize, Refused)>
     ensures { MatchOption result (NoneRefusedTo refused.now hidden.now (length refused.now))
-        (λ p. IsRefusedAt refused.now hidden.now p.0 p.1 × NoneRefusedTo refused.now hidden.now p.0) }
+        (λ p. IsRefusedAt refused.now hidden.now p.0 p.1
+        × NoneRefusedTo refused.now hidden.now p.0) }
 {
     for at in 0..refused.len() {
         if let Some(named) = refused[at] {
@@ -116,7 +117,8 @@ pub fn cascade_pseudo(
     ensures given { GivesOneOf (λ c. c.winners) refusal_of result
         (IsPseudoCascade page.now.nodes texts.now sheets.now which) }
     ensures lists { IfOk result (λ c. AreWinners page.now.nodes c.winners) }
-    ensures places { IfErr result (λ fault. IfSome (refusal_of fault) (IsPlaced page.now.nodes texts.now)) }
+    ensures places { IfErr result (λ fault. IfSome (refusal_of fault)
+        (IsPlaced page.now.nodes texts.now)) }
 {
     let rulesets = read_rulesets(alloc, Some(which), texts, sheets)?;
     if rulesets.as_slice().is_empty() {

@@ -34,7 +34,8 @@ struct SheetText<'a> {
 
 /// A slice of a text, if it begins and ends at characters.
 pub fn slice(text: &str, at: u32, len: u32) -> Option<&str>
-    ensures { MatchOption result (IsNoSlice text.now at len) (λ piece. IsSlice text.now at len piece.now) }
+    ensures { MatchOption result (IsNoSlice text.now at len)
+        (λ piece. IsSlice text.now at len piece.now) }
 {
     let start = at as usize;
     let end = start + len as usize;
@@ -87,7 +88,8 @@ fn claims_for(
     decl: &Decl,
     settings: List<Setting>,
 ) -> Result<List<Claim>, Mem>
-    ensures { IfOk result (λ claims. claims ≡ map (λ s. claim_of origin decl.now s.prop (Some s.value)) settings) }
+    ensures { IfOk result (λ claims. claims
+        ≡ map (λ s. claim_of origin decl.now s.prop (Some s.value)) settings) }
 {
     let mut claims = List::new(alloc);
     for setting in settings.into_vec() {
@@ -108,8 +110,8 @@ fn refused_claim(alloc: Global, origin: Origin, decl: &Decl, prop: Prop) -> Resu
 
 /// What a declaration with this value says.
 fn said(alloc: Global, origin: Origin, decl: &Decl, value: &str) -> Result<List<Claim>, Mem>
-    ensures { IfOk result (λ claims. (answer : Result (Seq Setting) Refusal) × Says decl.now.name value.now answer
-        × (claims ≡ claims_of origin decl.now answer)) }
+    ensures { IfOk result (λ claims. (answer : Result (Seq Setting) Refusal)
+        × Says decl.now.name value.now answer × (claims ≡ claims_of origin decl.now answer)) }
 {
     match read_declaration(alloc, decl.name.as_str(), value) {
         Ok(settings) => claims_for(alloc, origin, decl, settings),
@@ -164,7 +166,8 @@ fn those_of(
     selectors: List<Selector>,
 ) -> Result<List<Selector>, Mem>
     requires { AllByRecursion (λ s. IsCountable (spelled s)) selectors }
-    ensures those { IfOk result (λ those. map spelled those ≡ those_of which (map spelled selectors)) }
+    ensures those { IfOk result (λ those. map spelled those
+        ≡ those_of which (map spelled selectors)) }
     ensures countable { IfOk result (AllByRecursion (λ s. IsCountable (spelled s))) }
 {
     let mut those = List::new(alloc);
@@ -182,9 +185,10 @@ fn read_those(
     which: Option<Pseudo>,
     selector: &str,
 ) -> Result<List<Selector>, SelFault>
-    ensures those { IfOk result (λ those. (selectors : Seq Spelled) × IsGroupOf selector.now selectors
-        × (map spelled those ≡ those_of which selectors)) }
-    ensures unread { IfErr result (λ fault. FailsWith (reason_of fault) (IsReadingOf selector.now)) }
+    ensures those { IfOk result (λ those. (selectors : Seq Spelled)
+        × IsGroupOf selector.now selectors × (map spelled those ≡ those_of which selectors)) }
+    ensures unread { IfErr result (λ fault. FailsWith (reason_of fault)
+        (IsReadingOf selector.now)) }
     ensures countable { IfOk result (AllByRecursion (λ s. IsCountable (spelled s))) }
 {
     let selectors = read_selector(alloc, selector)?;
@@ -222,7 +226,8 @@ fn unsupported_at(origin: Origin, rule: u32, at: u32) -> Result<Option<Ruleset>,
 
 /// What a rule comes to, at this place, of which the selector can't be read.
 fn unread(origin: Origin, rule: u32, fault: SelFault) -> Result<Option<Ruleset>, CascadeFault>
-    ensures is { GivesOneOf option_to_list refusal_of result (BySelector (IsUnread origin rule fault)) }
+    ensures is { GivesOneOf option_to_list refusal_of result
+        (BySelector (IsUnread origin rule fault)) }
     ensures room { IfErr result (λ answered. answered ≡ CascadeFault.Mem → IfSome (reason_of fault)
         (λ reason. (at : ℕ) × (reason ≡ no_support_at at) × (2 ^ 32 ≤ rule + at))) }
 {
@@ -260,7 +265,8 @@ fn ruleset_of(
     selectors: List<Selector>,
 ) -> Result<Option<Ruleset>, Mem>
     requires { AllByRecursion (λ s. IsCountable (spelled s)) selectors }
-    ensures { IfOk result (λ found. IsRulesetOf origin text.now rule.now (map spelled selectors) found) }
+    ensures { IfOk result (λ found. IsRulesetOf origin text.now rule.now
+        (map spelled selectors) found) }
 {
     // What such a rule declares is read for the cascade that it belongs to alone.
     if selectors.is_empty() {

@@ -28,7 +28,8 @@ fn style_text(body: &Body) -> Option<&str>
 
 /// The style attribute of the node of this number.
 fn style_at(page: &Page, node: usize) -> Option<&str>
-    ensures { option_map (λ text. text.now) result ≡ text_of_source page.now.nodes [] (of_source.Style node 0 0) }
+    ensures { option_map (λ text. text.now) result
+        ≡ text_of_source page.now.nodes [] (of_source.Style node 0 0) }
 {
     match page.nodes.as_slice().get(node) {
         Some(node) => style_text(&node.body),
@@ -38,7 +39,8 @@ fn style_at(page: &Page, node: usize) -> Option<&str>
 
 /// The text in which a source stands.
 fn text_of_source<'a>(page: &'a Page, texts: &'a [Text], source: Source) -> Option<&'a str>
-    ensures { option_map (λ text. text.now) result ≡ text_of_source page.now.nodes texts.now source }
+    ensures { option_map (λ text. text.now) result
+        ≡ text_of_source page.now.nodes texts.now source }
 {
     match source {
         Source::Default { at: _, len: _ } => text_at(texts, 0),

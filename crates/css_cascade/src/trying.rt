@@ -34,7 +34,8 @@ fn numbers_in(named: &[List<usize>], at: usize) -> &[usize]
 
 /// The numbers of the selectors that may match an element, in no order.
 fn gathered(alloc: Global, buckets: &Buckets<'_>, element: &Element) -> Result<Vec<usize>, Mem>
-    ensures { IfOk result (λ numbers. (at : ℕ) → MayMatch buckets.now element.now at → Contains numbers.items at) }
+    ensures { IfOk result (λ numbers. (at : ℕ) → MayMatch buckets.now element.now at
+        → Contains numbers.items at) }
 {
     let words = element_buckets(alloc, element)?;
     let mut numbers = Vec::new(alloc);
@@ -53,7 +54,8 @@ pub fn numbers_for(
     element: &Element,
 ) -> Result<Vec<usize>, Mem>
     ensures rise { IfOk result (λ numbers. Rises 0 numbers.items) }
-    ensures all { IfOk result (λ numbers. (at : ℕ) → MayMatch buckets.now element.now at → Contains numbers.items at) }
+    ensures all { IfOk result (λ numbers. (at : ℕ) → MayMatch buckets.now element.now at
+        → Contains numbers.items at) }
 {
     let mut numbers = gathered(alloc, buckets, element)?;
     // Rulesets have to be met in their order again.

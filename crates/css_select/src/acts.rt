@@ -33,7 +33,8 @@ impl Chain {
     /// Behind one more simple selector.
     fn with(self, compound: Compound, join: Join) -> Result<Self, Mem>
         requires { is_first join ≡ false }
-        ensures parts { IfOk result (λ next. next.parts ≡ self.parts ++ (self.join, compound) ∷ []) }
+        ensures parts { IfOk result (λ next. next.parts
+            ≡ self.parts ++ (self.join, compound) ∷ []) }
         ensures join { IfOk result (λ next. next.join ≡ join) }
     {
         let mut parts = self.parts;
@@ -43,7 +44,8 @@ impl Chain {
 
     /// The selector that a last simple selector ends, with its pseudo-element.
     fn end(self, compound: Compound, pseudo: Option<Pseudo>) -> Result<Selector, Mem>
-        ensures { IfOk result (λ s. spelled s ≡ (self.parts ++ (self.join, compound) ∷ [], pseudo)) }
+        ensures { IfOk result (λ s. spelled s
+            ≡ (self.parts ++ (self.join, compound) ∷ [], pseudo)) }
     {
         let mut parts = self.parts;
         parts.push((self.join, compound))?;

@@ -14,7 +14,8 @@ fn is_space(byte: u8) -> bool
 
 /// What follows the word at the front of a text.
 fn behind<'a>(text: &'a [u8], word: &[u8]) -> Option<&'a [u8]>
-    ensures { MatchOption result (behind word.now text.now ≡ None) (λ rest. behind word.now text.now ≡ Some rest.now) }
+    ensures { MatchOption result (behind word.now text.now ≡ None)
+        (λ rest. behind word.now text.now ≡ Some rest.now) }
 {
     text.strip_prefix(word)
 }

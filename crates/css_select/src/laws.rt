@@ -6,7 +6,9 @@ ghost use Rattle.css_select.specs.Verdicts.{IsReading, IsReadingOf, Verdict};
 /// one place the first of them; or none, at one place. So is each text.
 pub fn one_reading()
     ensures exists { (end : ℕ) (ts : List Token) → (v : Verdict) × IsReading end ts v }
-    ensures unique { (end : ℕ) (ts : List Token) (v w : Verdict) → IsReading end ts v → IsReading end ts w → v ≡ w }
+    ensures unique { (end : ℕ) (ts : List Token) (v w : Verdict) → IsReading end ts v
+        → IsReading end ts w → v ≡ w }
     ensures exists_text { (text : List ℕ) → (v : Verdict) × IsReadingOf text v }
-    ensures unique_text { (text : List ℕ) (v w : Verdict) → IsReadingOf text v → IsReadingOf text w → v ≡ w }
+    ensures unique_text { (text : List ℕ) (v w : Verdict) → IsReadingOf text v → IsReadingOf text w
+        → v ≡ w }
 {}

@@ -31,7 +31,8 @@ fn is_never(text: &str) -> bool
 
 /// Whether it is a pseudo-element that is refused.
 fn is_refused(text: &str) -> bool
-    ensures { result ≡ (same_name text.now (codes "first-line") || same_name text.now (codes "first-letter")) }
+    ensures { result ≡ (same_name text.now (codes "first-line") || same_name text.now
+        (codes "first-letter")) }
 {
     same_name(text, "first-line") || same_name(text, "first-letter")
 }

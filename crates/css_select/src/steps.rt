@@ -27,7 +27,8 @@ pub fn place(at: usize) -> Result<u32, Mem>
 
 /// The fault of a token that can't stand where it stands.
 fn bad(token: &Token<'_>) -> SelFault
-    ensures fails { FailsWith {B = State} (refusal_of result) (λ given. Err (bad_at token.now.at) ≡ given) }
+    ensures fails { FailsWith {B = State} (refusal_of result)
+        (λ given. Err (bad_at token.now.at) ≡ given) }
     ensures named { token.now.at < 2 ^ 32 → result ≡ Bad token.now.at }
 {
     match place(token.at) {
@@ -45,7 +46,8 @@ fn with_test(reading: Reading, test: Test) -> Result<Reading, SelFault>
 
 /// Behind an id.
 fn with_id(alloc: Global, reading: Reading, token: &Token<'_>) -> Result<Reading, SelFault>
-    ensures { Gives state_of refusal_of result (Ok (tested (state_of reading) (Id (text_of token.now)))) }
+    ensures { Gives state_of refusal_of result
+        (Ok (tested (state_of reading) (Id (text_of token.now)))) }
 {
     match text_of(alloc, token) {
         Ok(name) => with_test(reading, Test::Id(name)),
@@ -55,7 +57,8 @@ fn with_id(alloc: Global, reading: Reading, token: &Token<'_>) -> Result<Reading
 
 /// Behind a class.
 fn with_class(alloc: Global, reading: Reading, token: &Token<'_>) -> Result<Reading, SelFault>
-    ensures { Gives state_of refusal_of result (Ok (tested (state_of reading) (Class (text_of token.now)))) }
+    ensures { Gives state_of refusal_of result
+        (Ok (tested (state_of reading) (Class (text_of token.now)))) }
 {
     match text_of(alloc, token) {
         Ok(name) => with_test(reading, Test::Class(name)),
@@ -65,7 +68,8 @@ fn with_class(alloc: Global, reading: Reading, token: &Token<'_>) -> Result<Read
 
 /// Behind a tag.
 fn with_tag(alloc: Global, reading: Reading, token: &Token<'_>) -> Result<Reading, SelFault>
-    ensures { Gives state_of refusal_of result (Ok (tagged (state_of reading) (Some (name_of token.now)))) }
+    ensures { Gives state_of refusal_of result
+        (Ok (tagged (state_of reading) (Some (name_of token.now)))) }
 {
     match name_of(alloc, token) {
         Ok(name) => Ok(reading.tagged(Some(name))),
@@ -75,7 +79,8 @@ fn with_tag(alloc: Global, reading: Reading, token: &Token<'_>) -> Result<Readin
 
 /// Behind an attribute's name.
 fn with_name(alloc: Global, reading: Reading, token: &Token<'_>) -> Result<Reading, SelFault>
-    ensures { Gives state_of refusal_of result (Ok (at (state_of reading) (Name (name_of token.now)))) }
+    ensures { Gives state_of refusal_of result
+        (Ok (at (state_of reading) (Name (name_of token.now)))) }
 {
     match name_of(alloc, token) {
         Ok(name) => Ok(reading.at(Place::Name(name))),
@@ -232,7 +237,8 @@ fn step_colon(
     token: &Token<'_>,
     sign: Terminal,
 ) -> Result<Reading, SelFault>
-    ensures { Gives state_of refusal_of result (step_colon (state_of reading) colon token.now sign) }
+    ensures { Gives state_of refusal_of result
+        (step_colon (state_of reading) colon token.now sign) }
 {
     match sign {
         Terminal::Ident => step_name_behind_colon(alloc, reading, colon, token),
@@ -278,7 +284,8 @@ fn step_language(
     token: &Token<'_>,
     sign: Terminal,
 ) -> Result<Reading, SelFault>
-    ensures { Gives state_of refusal_of result (step_language (state_of reading) colon token.now sign) }
+    ensures { Gives state_of refusal_of result
+        (step_language (state_of reading) colon token.now sign) }
 {
     match sign {
         Terminal::Space => Ok(reading.at(Place::Language(colon))),
@@ -293,7 +300,8 @@ fn step_language_end(
     token: &Token<'_>,
     sign: Terminal,
 ) -> Result<Reading, SelFault>
-    ensures { Gives state_of refusal_of result (step_language_end (state_of reading) colon token.now sign) }
+    ensures { Gives state_of refusal_of result
+        (step_language_end (state_of reading) colon token.now sign) }
 {
     match sign {
         Terminal::Space => Ok(reading.at(Place::LanguageEnd(colon))),
@@ -309,7 +317,8 @@ fn step_element(
     token: &Token<'_>,
     sign: Terminal,
 ) -> Result<Reading, SelFault>
-    ensures { Gives state_of refusal_of result (step_element (state_of reading) pseudo token.now sign) }
+    ensures { Gives state_of refusal_of result
+        (step_element (state_of reading) pseudo token.now sign) }
 {
     match sign {
         Terminal::Space => Ok(reading.at(Place::Element(pseudo))),
@@ -339,7 +348,8 @@ fn step_sign(
     token: &Token<'_>,
     sign: Terminal,
 ) -> Result<Reading, SelFault>
-    ensures { Gives state_of refusal_of result (step_sign (state_of reading) name token.now (comparison sign)) }
+    ensures { Gives state_of refusal_of result
+        (step_sign (state_of reading) name token.now (comparison sign)) }
 {
     match comparison(sign) {
         Some(how) => Ok(reading.at(Place::Sign(name, how))),
@@ -370,7 +380,8 @@ fn step_value(
     token: &Token<'_>,
     sign: Terminal,
 ) -> Result<Reading, SelFault>
-    ensures { Gives state_of refusal_of result (step_value (state_of reading) name how token.now sign) }
+    ensures { Gives state_of refusal_of result
+        (step_value (state_of reading) name how token.now sign) }
 {
     match sign {
         Terminal::Space => Ok(reading.at(Place::Sign(name, how))),
@@ -390,7 +401,8 @@ fn step_closing(
     token: &Token<'_>,
     sign: Terminal,
 ) -> Result<Reading, SelFault>
-    ensures { Gives state_of refusal_of result (step_closing (state_of reading) test token.now sign) }
+    ensures { Gives state_of refusal_of result
+        (step_closing (state_of reading) test token.now sign) }
 {
     match sign {
         Terminal::Space => Ok(reading.at(Place::Value(test))),

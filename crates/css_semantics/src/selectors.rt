@@ -31,9 +31,11 @@ pub fn joins_say_where()
 /// Law: what one id, one class, one tag and a pseudo-element behind it count (CSS 2.1, 6.4.3).
 pub fn specificity_counts()
     ensures id { (name : Seq ℕ) → spec_of (alone None (of_test.Id name ∷ []), None) ≡ counts 1 0 0 }
-    ensures class { (name : Seq ℕ) → spec_of (alone None (of_test.Class name ∷ []), None) ≡ counts 0 1 0 }
+    ensures class { (name : Seq ℕ) → spec_of (alone None (of_test.Class name ∷ []), None)
+        ≡ counts 0 1 0 }
     ensures tag { (name : Seq ℕ) → spec_of (alone (Some name) [], None) ≡ counts 0 0 1 }
-    ensures pseudo { (name : Seq ℕ) (p : Pseudo) → spec_of (alone (Some name) [], Some p) ≡ counts 0 0 2 }
+    ensures pseudo { (name : Seq ℕ) (p : Pseudo)
+        → spec_of (alone (Some name) [], Some p) ≡ counts 0 0 2 }
 {}
 
 /// Law: a style attribute is more specific than any selector, one id more than any number of classes and tags, and one

@@ -15,12 +15,12 @@ ghost use Rattle.css_semantics.specs.ValuesLaws.{FewerSides, HasValue, IsAmong, 
 /// A law: a declaration sets its own property alone, or all that it is short for, in the order of the table of
 /// properties, each once (CSS 2.1, 1.4.3).
 pub fn settings_in_order()
-    ensures alone { (p : Prop) (ps : Seq Part) (settings : Seq Setting) → longhand p ps ≡ Ok settings
-        → props settings ≡ p ∷ [] }
-    ensures whole { (s : Shorthand) (ps : Seq Part) (settings : Seq Setting) → shorthand s ps ≡ Ok settings
-        → props settings ≡ longhands s }
-    ensures ordered { (name : Seq ℕ) (ps : Seq Part) (settings : Seq Setting) → declared name ps ≡ Ok settings
-        → IsAmong (props settings) properties }
+    ensures alone { (p : Prop) (ps : Seq Part) (settings : Seq Setting)
+        → longhand p ps ≡ Ok settings → props settings ≡ p ∷ [] }
+    ensures whole { (s : Shorthand) (ps : Seq Part) (settings : Seq Setting)
+        → shorthand s ps ≡ Ok settings → props settings ≡ longhands s }
+    ensures ordered { (name : Seq ℕ) (ps : Seq Part) (settings : Seq Setting)
+        → declared name ps ≡ Ok settings → IsAmong (props settings) properties }
 {}
 
 /// A law: each value of one part is one that the property's row of the table has. None is negative where it says so,
@@ -32,7 +32,8 @@ pub fn values_by_the_table()
 /// A law: each setting of a declaration is one that the property's row of the table allows: `inherit`, names of
 /// families or a text where the row takes them, a percentage of at most 2^40 millionths (CSS 2.1, 4.3 and 6.2.1).
 pub fn values_allowed()
-    ensures { (name text : Seq ℕ) (settings : Seq Setting) → Says name text (Ok settings) → AreAllowed settings }
+    ensures { (name text : Seq ℕ) (settings : Seq Setting) → Says name text (Ok settings)
+        → AreAllowed settings }
 {}
 
 /// A law: what one, two, three and four values of a shorthand for four sides stand for (CSS 2.1, 8.3).
@@ -42,5 +43,6 @@ pub fn fewer_sides()
 
 /// A law: no name and text have two answers.
 pub fn one_answer()
-    ensures { (name text : Seq ℕ) (a b : Result (Seq Setting) Refusal) → Says name text a → Says name text b → a ≡ b }
+    ensures { (name text : Seq ℕ) (a b : Result (Seq Setting) Refusal) → Says name text a
+        → Says name text b → a ≡ b }
 {}

@@ -16,8 +16,10 @@ ghost use Rattle.css_semantics.specs.CascadeOrder.{Applied, IsGreatest, IsWinner
 /// weight and specificity and behind which each is less; there is exactly one where there is a setting (CSS 2.1,
 /// 6.4.1).
 pub fn one_winner()
-    ensures winner { (p : Prop) (all : Seq Applied) (a : Applied) → (winner_of p all ≡ Some a) ↔ IsWinner p all a }
-    ensures none { (p : Prop) (all : Seq Applied) → (winner_of p all ≡ None) ↔ (of_prop p all ≡ []) }
+    ensures winner { (p : Prop) (all : Seq Applied) (a : Applied)
+        → (winner_of p all ≡ Some a) ↔ IsWinner p all a }
+    ensures none { (p : Prop) (all : Seq Applied)
+        → (winner_of p all ≡ None) ↔ (of_prop p all ≡ []) }
 {}
 
 /// Law: the specificity by which a ruleset applies is one of those of its selectors that match, and none of them is
@@ -31,18 +33,22 @@ pub fn one_specificity()
 /// Law: an author's `!important` declaration overrides one that isn't, and each of the author's overrides each of the
 /// default sheet, even one that is `!important` there (CSS 2.1, 6.4.1 and 6.4.2).
 pub fn important_overrides()
-    ensures normal { (o q : Origin) (d e : Decl) → IsImportant o d → e.important ≡ false → Overrides o d q e }
-    ensures default { (o q : Origin) (d e : Decl) → is_author o ≡ true → is_author q ≡ false → Overrides o d q e }
+    ensures normal { (o q : Origin) (d e : Decl) → IsImportant o d → e.important ≡ false
+        → Overrides o d q e }
+    ensures default { (o q : Origin) (d e : Decl) → is_author o ≡ true → is_author q ≡ false
+        → Overrides o d q e }
 {}
 
 /// Law: a node inside a hidden one is hidden whatever wins at it, and so is one at which `display: none` wins; no other
 /// is (CSS 2.1, 9.2.4).
 pub fn hidden_inside()
-    ensures { (replaced : Bool) (outer : Standing) (winners : Seq Claim) → Hides replaced outer winners }
+    ensures { (replaced : Bool) (outer : Standing) (winners : Seq Claim)
+        → Hides replaced outer winners }
 {}
 
 /// Law: what the cascade takes for hidden, as it goes from node to node, is each node at which or around which
 /// `display: none` wins, and no other (CSS 2.1, 9.2.4).
 pub fn hidden_by_display()
-    ensures { (nodes : Seq Node) (rulesets : Seq Ruleset) → IsPage nodes → StandingsAgree nodes rulesets }
+    ensures { (nodes : Seq Node) (rulesets : Seq Ruleset) → IsPage nodes
+        → StandingsAgree nodes rulesets }
 {}

@@ -34,7 +34,8 @@ fn is_value(alloc: Global, tokens: &[Token<'_>]) -> Result<bool, Mem>
 
 /// What stands before the `!` at the end of the tokens, and the place of the `!`.
 fn before_bang<'a>(tokens: &'a [Token<'a>]) -> Option<(&'a [Token<'a>], usize)>
-    ensures { MatchOption result (before_last tokens.now ≡ None) (λ p. before_last tokens.now ≡ Some (p.0.now, p.1)) }
+    ensures { MatchOption result (before_last tokens.now ≡ None)
+        (λ p. before_last tokens.now ≡ Some (p.0.now, p.1)) }
 {
     let last = tokens.last()?;
     if is_character(last, b'!') {

@@ -62,7 +62,8 @@ pub fn block_rule<'a>(
     media: &Option<List<MediaEntry>>,
     tokens: &'a [Token<'a>],
 ) -> Result<(Option<Rule>, &'a [Token<'a>]), Mem>
-    ensures { IfOk result (λ p. (p.0 ≡ block_rule media.now tokens.now) × (p.1.now ≡ after_ruleset tokens.now)) }
+    ensures { IfOk result (λ p. (p.0 ≡ block_rule media.now tokens.now)
+        × (p.1.now ≡ after_ruleset tokens.now)) }
 {
     let (selector, rest) = split(alloc, tokens, Stop::Selector)?;
     let Some((brace, after)) = rest.split_first() else {

@@ -182,7 +182,8 @@ fn finish(said: &mut Text, ending: Ending, mode: Mode) -> Result<(), Mem>
 }
 
 fn finish_backslash(said: &mut Text, ending: Ending) -> Result<(), Mem>
-    ensures { OnOk result (said.old ++ encode_utf8_all (resolved_in ending Mode.Backslash []) ≡ said.new) }
+    ensures { OnOk result (said.old ++ encode_utf8_all (resolved_in ending Mode.Backslash [])
+        ≡ said.new) }
 {
     match ending {
         Ending::Nowhere => {
@@ -195,7 +196,8 @@ fn finish_backslash(said: &mut Text, ending: Ending) -> Result<(), Mem>
 
 /// The text with each escape resolved, up to where it ends.
 fn resolve(alloc: Global, ending: Ending, text: &str) -> Result<Text, Mem>
-    ensures { IfOk result (λ t. t ≡ encode_utf8_all (resolved (extent_of ending) (chars text.now))) }
+    ensures { IfOk result (λ t. t ≡ encode_utf8_all
+        (resolved (extent_of ending) (chars text.now))) }
 {
     let mut said = Text::new(alloc);
     let mut mode = Mode::Plain;
@@ -259,7 +261,8 @@ fn address(alloc: Global, text: &str) -> Result<Text, Mem>
 ///
 /// `Mem` for want of memory; no clause says when.
 pub fn unescape(alloc: Global, token: &Token<'_>) -> Result<Text, Mem>
-    ensures { IfOk result (λ t. t ≡ encode_utf8_all (unescaped token.now.kind (chars token.now.text))) }
+    ensures { IfOk result (λ t. t ≡ encode_utf8_all
+        (unescaped token.now.kind (chars token.now.text))) }
 {
     let text = token.text;
     match token.kind {

@@ -79,7 +79,8 @@ impl Marks {
 
     /// Goes past the next token of a value, if it may stand there.
     pub fn pass_in_value(&mut self, kind: TokenKind) -> Result<bool, Mem>
-        ensures { IfOk result (λ goes. value_step kind self.old ≡ (if goes then Some self.new else None)) }
+        ensures { IfOk result (λ goes. value_step kind self.old
+            ≡ (if goes then Some self.new else None)) }
     {
         if let Some(mark) = closing_mark(kind) {
             if is_bad(kind) {

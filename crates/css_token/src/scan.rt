@@ -15,7 +15,8 @@ fn longest<'a>(
     best_kind: TokenKind,
     best_rest: &'a str,
 ) -> (TokenKind, &'a str)
-    ensures { longest from (chars text.now) (best_kind, chars best_rest.now) ≡ (result.0, chars result.1.now) }
+    ensures { longest from (chars text.now) (best_kind, chars best_rest.now)
+        ≡ (result.0, chars result.1.now) }
 {
     let mut state = from;
     let mut rest = text;

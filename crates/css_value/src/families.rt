@@ -72,7 +72,8 @@ fn joined(name: Text, word: &str) -> Result<Text, Mem>
 #[tactic(auto, using(crate::proofs::FamilyLemmas::with_front_push))]
 fn after_words(names: &mut List<Text>, name: Text, part: &Part) -> Result<Option<Before>, Mem>
     ensures { IfOk result (λ after. (ps : Seq Part)
-        → with_front names.old (family_from name (part.now ∷ ps)) ≡ names_after names.new after ps) }
+        → with_front names.old (family_from name (part.now ∷ ps))
+        ≡ names_after names.new after ps) }
 {
     match part {
         Part::Comma => {
@@ -92,7 +93,8 @@ fn next(
     part: &Part,
 ) -> Result<Option<Before>, Mem>
     ensures { IfOk result (λ after. (ps : Seq Part)
-        → with_front names.old (names_from before (part.now ∷ ps)) ≡ names_after names.new after ps) }
+        → with_front names.old (names_from before (part.now ∷ ps))
+        ≡ names_after names.new after ps) }
 {
     match before {
         Before::Comma => after_comma(alloc, names, part),

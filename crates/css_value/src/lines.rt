@@ -58,8 +58,10 @@ fn set_lines(
     parts: &[Part],
     props: &[Prop],
 ) -> Result<(), ValueFault>
-    ensures ok { OnOk result (joined settings.old (set_by class place parts.now props.now) ≡ Ok settings.new) }
-    ensures fault { IfErr result (λ fault. Fails fault (joined settings.old (set_by class place parts.now props.now))) }
+    ensures ok { OnOk result (joined settings.old (set_by class place parts.now props.now)
+        ≡ Ok settings.new) }
+    ensures fault { IfErr result (λ fault. Fails fault
+        (joined settings.old (set_by class place parts.now props.now))) }
 {
     for prop in props {
         let value = line_value(class, place, *prop, parts)?;

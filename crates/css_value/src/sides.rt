@@ -69,7 +69,8 @@ fn four(
     left: &Part,
 ) -> Result<List<Setting>, ValueFault>
     ensures { Gives (λ x. x) refusal_of result
-        (four sides (record { top = top.now; right = right.now; bottom = bottom.now; left = left.now })) }
+        (four sides
+        (record { top = top.now; right = right.now; bottom = bottom.now; left = left.now })) }
 {
     let mut settings = List::new(alloc);
     set_four(&mut settings, sides, top, right, bottom, left)?;

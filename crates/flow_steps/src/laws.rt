@@ -33,26 +33,33 @@ pub fn boxes_stand_in_document_order(tree: &BoxTree)
 /// on the way, it is what the definition finds by leads that pass more and more boxes (CSS 2.1, 8.3.1, 9.5.2).
 pub fn clearance_is_decided_on_the_way(tree: &BoxTree, world: World, at: usize)
     requires within { at < length tree.now.boxes }
-    ensures margins { (size : Waiting ℤ → Extent ℤ) (edge : ℤ) (run : List ℤ) (cb : Band ℤ) (floats : List FloatBox)
-        (least : Option ℤ)
-        → run_of (run ++
-        (resolve (on_ground tree.now world size (hangs edge) floats least) run cb at none_passed).margins)
-        ≡ (forward (on_ground tree.now world size (hangs edge) floats least) none_passed cb at (run_of run)).run }
-    ensures cleared { (size : Waiting ℤ → Extent ℤ) (edge : ℤ) (run : List ℤ) (cb : Band ℤ) (floats : List FloatBox)
-        (least : Option ℤ)
-        → (resolve (on_ground tree.now world size (hangs edge) floats least) run cb at none_passed).cleared
-        ≡ cleared_of
-        (forward (on_ground tree.now world size (hangs edge) floats least) none_passed cb at (run_of run)).end }
-    ensures opened { (size : Waiting ℤ → Extent ℤ) (y : ℤ) (cb : Band ℤ) (floats : List FloatBox) (least : Option ℤ)
-        → (resolve (on_ground tree.now world size (stands y) floats least) [] cb at (is_up_to at)).cleared
-        ≡ cleared_of (forward (on_ground tree.now world size (stands y) floats least) (is_up_to at) cb at no_run).end }
+    ensures margins { (size : Waiting ℤ
+        → Extent ℤ) (edge : ℤ) (run : List ℤ) (cb : Band ℤ) (floats : List FloatBox)
+        (least : Option ℤ) → run_of (run
+        ++ (resolve (on_ground tree.now world size
+        (hangs edge) floats least) run cb at none_passed).margins)
+        ≡ (forward (on_ground tree.now world size (hangs edge) floats least) none_passed cb at
+        (run_of run)).run }
+    ensures cleared { (size : Waiting ℤ
+        → Extent ℤ) (edge : ℤ) (run : List ℤ) (cb : Band ℤ) (floats : List FloatBox)
+        (least : Option ℤ) → (resolve (on_ground tree.now world size
+        (hangs edge) floats least) run cb at none_passed).cleared
+        ≡ cleared_of (forward (on_ground tree.now world size
+        (hangs edge) floats least) none_passed cb at (run_of run)).end }
+    ensures opened { (size : Waiting ℤ
+        → Extent ℤ) (y : ℤ) (cb : Band ℤ) (floats : List FloatBox) (least : Option ℤ)
+        → (resolve (on_ground tree.now world size (stands y) floats least) [] cb at
+        (is_up_to at)).cleared ≡ cleared_of
+        (forward (on_ground tree.now world size (stands y) floats least)
+        (is_up_to at) cb at no_run).end }
 {}
 
 /// The way forward from a box, by that of the boxes in it: more levels would change nothing.
 pub fn a_way_forward_comes_from_inside(tree: &BoxTree, at: usize)
     requires within { at < length tree.now.boxes }
-    ensures { (g : Ground) (passed : ℕ → Bool) (cb : Band ℤ) (run : Run ℤ) (waiting : List (Waiting ℤ))
-        → g.tree ≡ tree.now → way g passed cb at run waiting ≡ forward_step g passed (way g passed) cb at run waiting }
+    ensures { (g : Ground) (passed : ℕ
+        → Bool) (cb : Band ℤ) (run : Run ℤ) (waiting : List (Waiting ℤ)) → g.tree ≡ tree.now
+        → way g passed cb at run waiting ≡ forward_step g passed (way g passed) cb at run waiting }
 {}
 
 /// The steps through what is in a box, by those through what is in later boxes, whatever the table of boxes outside the

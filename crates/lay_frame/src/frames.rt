@@ -59,7 +59,8 @@ pub fn verticals<S: Steady>(calc: &mut S, tree: &BoxTree, b: u32, room: &S::Num)
 
 /// The top of a box's content.
 pub fn content_top<S: Steady>(calc: &mut S, shape: &Shape<S::Num>) -> S::Num
-    ensures { Lays S.run calc.old calc.new (S.at result) (λ e. top_of_content (frame_at S.at shape.now e))
+    ensures { Lays S.run calc.old calc.new (S.at result)
+        (λ e. top_of_content (frame_at S.at shape.now e))
         (λ e. AllSmall (top_way (frame_at S.at shape.now e))) }
 {
     let edge = calc.add(&shape.corner.y, &shape.v.border_top);

@@ -1,5 +1,6 @@
 //! The list that boxes are put into, in document order (CSS 2.1, 9.4).
-ghost use Rattle.std.specs.Prelude.{◌≡◌, ◌++◌, ◌∷◌, [], pos, length, IsTrue, ⊤};
+ghost use Rattle.std.specs.Prelude.{◌≡◌, ◌++◌, ◌∷◌, [], pos, length, ⊤};
+ghost use Rattle.viz_calc.specs.State.{WhereOpen};
 ghost use Rattle.std.proofs.Math.ListN.{set};
 ghost use Rattle.viz_calc.specs.World.{Reading};
 ghost use Rattle.viz_calc.specs.Run.{Goes, BlamesButMem, LaysButMem};
@@ -37,10 +38,12 @@ pub fn keep<S: Steady>(
 ) -> usize
     ensures goes { Goes (S.run calc.old) (S.run calc.new) }
     ensures place { (e : Reading) → result ≡ length (boxes_at S.at out.old.items e) }
-    ensures value { (e : Reading) → IsTrue ((S.run calc.new).is_open e) → boxes_at S.at out.new.items e
-        ≡ boxes_at S.at out.old.items e ++ placed_box tree.now b (frame_at S.at shape.now e) (pos 0) ∷ [] }
+    ensures value { WhereOpen (S.run calc.new).is_open
+        (λ e. boxes_at S.at out.new.items e
+        ≡ boxes_at S.at out.old.items e
+        ++ placed_box tree.now b (frame_at S.at shape.now e) (pos 0) ∷ []) }
     ensures cause { BlamesButMem (S.run calc.old) (S.run calc.new)
-        ((e : Reading) → IsTrue ((S.run calc.old).is_open e) → KeptFits (frame_at S.at shape.now e)) }
+        (WhereOpen (S.run calc.old).is_open (λ e. KeptFits (frame_at S.at shape.now e))) }
 {
     let flat = zero(calc);
     let first = place(calc, tree, b, shape, &flat);

@@ -18,12 +18,10 @@ use viz_calc::Steady;
 /// A rectangle without a strip along its edges.
 fn inset<S: Steady>(calc: &mut S, q: &Quad<S::Num>, by: &Quad<S::Num>) -> Quad<S::Num>
     ensures { Lays S.run calc.old calc.new (quad_at S.at result)
-        (λ e. inset_by (quad_at S.at q.now e) (S.at by.now.left e) (S.at by.now.top e) (S.at by.now.right e)
-        (S.at by.now.bottom e))
-        (λ e. AllSmall
-        (quad_way
-        (inset_by (quad_at S.at q.now e) (S.at by.now.left e) (S.at by.now.top e) (S.at by.now.right e)
-        (S.at by.now.bottom e)))) }
+        (λ e. inset_by (quad_at S.at q.now e) (S.at by.now.left e) (S.at by.now.top e)
+        (S.at by.now.right e) (S.at by.now.bottom e))
+        (λ e. AllSmall (quad_way (inset_by (quad_at S.at q.now e) (S.at by.now.left e)
+        (S.at by.now.top e) (S.at by.now.right e) (S.at by.now.bottom e)))) }
 {
     let left = calc.add(&q.left, &by.left);
     let top = calc.add(&q.top, &by.top);
@@ -40,12 +38,10 @@ fn inset<S: Steady>(calc: &mut S, q: &Quad<S::Num>, by: &Quad<S::Num>) -> Quad<S
 /// With one around it.
 fn outset<S: Steady>(calc: &mut S, q: &Quad<S::Num>, by: &Quad<S::Num>) -> Quad<S::Num>
     ensures { Lays S.run calc.old calc.new (quad_at S.at result)
-        (λ e. outset_by (quad_at S.at q.now e) (S.at by.now.left e) (S.at by.now.top e) (S.at by.now.right e)
-        (S.at by.now.bottom e))
-        (λ e. AllSmall
-        (quad_way
-        (outset_by (quad_at S.at q.now e) (S.at by.now.left e) (S.at by.now.top e) (S.at by.now.right e)
-        (S.at by.now.bottom e)))) }
+        (λ e. outset_by (quad_at S.at q.now e) (S.at by.now.left e) (S.at by.now.top e)
+        (S.at by.now.right e) (S.at by.now.bottom e))
+        (λ e. AllSmall (quad_way (outset_by (quad_at S.at q.now e) (S.at by.now.left e)
+        (S.at by.now.top e) (S.at by.now.right e) (S.at by.now.bottom e)))) }
 {
     let left = calc.sub(&q.left, &by.left);
     let top = calc.sub(&q.top, &by.top);
@@ -92,8 +88,9 @@ fn around<S: Steady>(
     border: Quad<S::Num>,
 ) -> Placed<S::Num>
     ensures { Lays S.run calc.old calc.new (placed_at S.at result)
-        (λ e. around_box kind node (widths_at S.at x.now e) (verticals_at S.at v.now e) (quad_at S.at border e))
-        (λ e. AroundFits (widths_at S.at x.now e) (verticals_at S.at v.now e) (quad_at S.at border e)) }
+        (λ e. around_box kind node (widths_at S.at x.now e) (verticals_at S.at v.now e)
+        (quad_at S.at border e)) (λ e. AroundFits (widths_at S.at x.now e)
+        (verticals_at S.at v.now e) (quad_at S.at border e)) }
 {
     let margins = Quad {
         left: calc.copy(&x.margin_left),

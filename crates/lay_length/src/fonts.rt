@@ -20,7 +20,8 @@ use viz_calc::Steady;
 
 /// How the font size of a node comes about; as the parent's, where there is no such node.
 fn size_at(tree: &BoxTree, node: u32) -> Size
-    ensures value { result ≡ option_map_or (λ (s : StyleOf). s.size) (slice_get tree.now.styles node) of_size.Same }
+    ensures value { result ≡ option_map_or
+        (λ (s : StyleOf). s.size) (slice_get tree.now.styles node) of_size.Same }
     ensures good { IsTrue (is_good_size result) }
 {
     match tree.styles.get(node as usize) {
@@ -42,7 +43,8 @@ fn parent_at(tree: &BoxTree, node: u32) -> Option<u32>
 /// A part of the default font size.
 fn default_part<S: Steady>(calc: &mut S, num: i64, den: u64) -> S::Num
     requires { 1 ≤ den }
-    ensures { Lays S.run calc.old calc.new (S.at result) (λ e. fraction num den (default_size e.world.s))
+    ensures { Lays S.run calc.old calc.new (S.at result)
+        (λ e. fraction num den (default_size e.world.s))
         (λ e. AllSmall (default_size e.world.s ∷ fraction num den (default_size e.world.s) ∷ [])) }
 {
     let size = calc.size();
@@ -74,7 +76,8 @@ pub fn size_part<S: Steady>(calc: &mut S, tree: &BoxTree, node: u32, num: i64, d
     requires { 1 ≤ den }
     ensures { Lays S.run calc.old calc.new (S.at result)
         (λ e. fraction num den (font_size_of tree.now e.world node))
-        (λ e. AllSmall (part_way tree.now e.world node (fraction num den (font_size_of tree.now e.world node)))) }
+        (λ e. AllSmall (part_way tree.now e.world node
+        (fraction num den (font_size_of tree.now e.world node)))) }
 {
     let size = font_size(calc, tree, node);
     calc.scale_floor(&size, num, den)
@@ -119,8 +122,8 @@ fn font_at(tree: &BoxTree, node: u32) -> Option<&Font>
 fn measure<S: Steady>(calc: &mut S, tree: &BoxTree, node: u32, font: &Font, units: i64) -> S::Num
     ensures { Lays S.run calc.old calc.new (S.at result)
         (λ e. fraction units font.now.upem (font_size_of tree.now e.world node))
-        (λ e. AllSmall
-        (part_way tree.now e.world node (fraction units font.now.upem (font_size_of tree.now e.world node)))) }
+        (λ e. AllSmall (part_way tree.now e.world node
+        (fraction units font.now.upem (font_size_of tree.now e.world node)))) }
 {
     size_part(calc, tree, node, units, u64::from(font.upem))
 }
@@ -150,8 +153,10 @@ pub fn descent<S: Steady>(calc: &mut S, tree: &BoxTree, node: u32) -> S::Num
 /// The width of a text as one word, in 1/64 px: the sum of its advances, and then the fraction.
 pub fn text_width<S: Steady>(calc: &mut S, tree: &BoxTree, node: u32, text: &str) -> S::Num
     requires { length (chars text.now) ≤ MOST_CHARACTERS }
-    ensures { Lays S.run calc.old calc.new (S.at result) (λ e. text_width_of tree.now e.world node (chars text.now))
-        (λ e. AllSmall (part_way tree.now e.world node (text_width_of tree.now e.world node (chars text.now)))) }
+    ensures { Lays S.run calc.old calc.new (S.at result)
+        (λ e. text_width_of tree.now e.world node (chars text.now))
+        (λ e. AllSmall (part_way tree.now e.world node
+        (text_width_of tree.now e.world node (chars text.now)))) }
 {
     match font_at(tree, node) {
         Some(font) => measure(calc, tree, node, font, advances_of(font, text) as i64),

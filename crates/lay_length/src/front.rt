@@ -36,10 +36,11 @@ pub fn used<C: Calc>(
 /// The font size of a node, in 1/64 px (CSS 2.1, 15.7). Errors as those of `used`.
 pub fn font_size<C: Calc>(calc: &mut C, tree: &BoxTree, node: u32) -> Result<C::Num, Halt>
     ensures grows { Grows (C.state calc.old) (C.state calc.new) }
-    ensures value { IfOk result (λ r. Stands (C.state calc.new) (C.at r) (λ e. font_size_of tree.now e.world node)) }
+    ensures value { IfOk result (λ r. Stands (C.state calc.new) (C.at r)
+        (λ e. font_size_of tree.now e.world node)) }
     ensures kept { AreOpen (C.state calc.old).kept (C.state calc.new) }
-    ensures cause { IfErr result (Cause (C.state calc.old) (C.state calc.new) (Fits (C.state calc.old)
-        (λ e. size_way tree.now e.world node))) }
+    ensures cause { IfErr result (Cause (C.state calc.old) (C.state calc.new)
+        (Fits (C.state calc.old) (λ e. size_way tree.now e.world node))) }
 {
     let mut latch = Latch::new(calc);
     let size = fonts::font_size(&mut latch, tree, node);
@@ -49,10 +50,11 @@ pub fn font_size<C: Calc>(calc: &mut C, tree: &BoxTree, node: u32) -> Result<C::
 /// The line height of a node, in 1/64 px (CSS 2.1, 10.8.1). Errors as those of `used`.
 pub fn line_height<C: Calc>(calc: &mut C, tree: &BoxTree, node: u32) -> Result<C::Num, Halt>
     ensures grows { Grows (C.state calc.old) (C.state calc.new) }
-    ensures value { IfOk result (λ r. Stands (C.state calc.new) (C.at r) (λ e. line_height_of tree.now e.world node)) }
+    ensures value { IfOk result (λ r. Stands (C.state calc.new) (C.at r)
+        (λ e. line_height_of tree.now e.world node)) }
     ensures kept { AreOpen (C.state calc.old).kept (C.state calc.new) }
-    ensures cause { IfErr result (Cause (C.state calc.old) (C.state calc.new) (Fits (C.state calc.old)
-        (λ e. line_way tree.now e.world node))) }
+    ensures cause { IfErr result (Cause (C.state calc.old) (C.state calc.new)
+        (Fits (C.state calc.old) (λ e. line_way tree.now e.world node))) }
 {
     let mut latch = Latch::new(calc);
     let height = fonts::line_height(&mut latch, tree, node);
@@ -62,10 +64,12 @@ pub fn line_height<C: Calc>(calc: &mut C, tree: &BoxTree, node: u32) -> Result<C
 /// The ascent of a node's font, in 1/64 px (CSS 2.1, 10.8.1). Errors as those of `used`.
 pub fn ascent<C: Calc>(calc: &mut C, tree: &BoxTree, node: u32) -> Result<C::Num, Halt>
     ensures grows { Grows (C.state calc.old) (C.state calc.new) }
-    ensures value { IfOk result (λ r. Stands (C.state calc.new) (C.at r) (λ e. ascent_of tree.now e.world node)) }
+    ensures value { IfOk result (λ r. Stands (C.state calc.new) (C.at r)
+        (λ e. ascent_of tree.now e.world node)) }
     ensures kept { AreOpen (C.state calc.old).kept (C.state calc.new) }
     ensures cause { IfErr result (Cause (C.state calc.old) (C.state calc.new)
-        (Fits (C.state calc.old) (λ e. part_way tree.now e.world node (ascent_of tree.now e.world node)))) }
+        (Fits (C.state calc.old) (λ e. part_way tree.now e.world node
+        (ascent_of tree.now e.world node)))) }
 {
     let mut latch = Latch::new(calc);
     let ascent = fonts::ascent(&mut latch, tree, node);
@@ -75,10 +79,12 @@ pub fn ascent<C: Calc>(calc: &mut C, tree: &BoxTree, node: u32) -> Result<C::Num
 /// The descent of a node's font, in 1/64 px (CSS 2.1, 10.8.1). Errors as those of `used`.
 pub fn descent<C: Calc>(calc: &mut C, tree: &BoxTree, node: u32) -> Result<C::Num, Halt>
     ensures grows { Grows (C.state calc.old) (C.state calc.new) }
-    ensures value { IfOk result (λ r. Stands (C.state calc.new) (C.at r) (λ e. descent_of tree.now e.world node)) }
+    ensures value { IfOk result (λ r. Stands (C.state calc.new) (C.at r)
+        (λ e. descent_of tree.now e.world node)) }
     ensures kept { AreOpen (C.state calc.old).kept (C.state calc.new) }
     ensures cause { IfErr result (Cause (C.state calc.old) (C.state calc.new)
-        (Fits (C.state calc.old) (λ e. part_way tree.now e.world node (descent_of tree.now e.world node)))) }
+        (Fits (C.state calc.old) (λ e. part_way tree.now e.world node
+        (descent_of tree.now e.world node)))) }
 {
     let mut latch = Latch::new(calc);
     let descent = fonts::descent(&mut latch, tree, node);
@@ -99,8 +105,8 @@ pub fn text_width<C: Calc>(
         (λ e. text_width_of tree.now e.world node (chars text.now))) }
     ensures kept { AreOpen (C.state calc.old).kept (C.state calc.new) }
     ensures cause { IfErr result (Cause (C.state calc.old) (C.state calc.new)
-        (Fits (C.state calc.old) (λ e. part_way tree.now e.world node (text_width_of tree.now e.world node
-        (chars text.now))))) }
+        (Fits (C.state calc.old) (λ e. part_way tree.now e.world node
+        (text_width_of tree.now e.world node (chars text.now))))) }
 {
     let mut latch = Latch::new(calc);
     let width = fonts::text_width(&mut latch, tree, node, text);

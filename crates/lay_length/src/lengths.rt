@@ -26,7 +26,8 @@ pub fn pixels<S: Steady>(calc: &mut S, units: i64) -> S::Num
 
 /// So many millionths of a hundredth of a length.
 pub fn percentage<S: Steady>(calc: &mut S, part: i64, whole: &S::Num) -> S::Num
-    ensures { Lays S.run calc.old calc.new (S.at result) (λ e. fraction part 100000000 (S.at whole.now e))
+    ensures { Lays S.run calc.old calc.new (S.at result)
+        (λ e. fraction part 100000000 (S.at whole.now e))
         (λ e. AllSmall (fraction part 100000000 (S.at whole.now e) ∷ [])) }
 {
     calc.scale_floor(whole, part, 100_000_000)

@@ -18,7 +18,8 @@ pub fn split_char(text: &str) -> Option<(char, &str)>
 
 /// The advance of the first entry of a character.
 fn entry_of(advances: &[(char, u32)], letter: char) -> Option<u32>
-    ensures { result ≡ option_map (λ entry. entry.1) (find (λ entry. entry.0 == letter) advances.now) }
+    ensures { result ≡ option_map (λ entry. entry.1) (find
+        (λ entry. entry.0 == letter) advances.now) }
 {
     for (other, advance) in advances {
         if *other == letter {

@@ -155,7 +155,8 @@ fn add_own_floats(tree: &BoxTree, b: u32, floats: &mut Vec<u32>) -> Result<(), A
 /// Adds the floats in the inline content of a box.
 fn add_floats(tree: &BoxTree, b: u32, floats: &mut Vec<u32>) -> Result<(), AllocError>
     requires { b < length tree.now.boxes }
-    ensures { OnOk result (floats.new.items ≡ floats.old.items ++ float_boxes (content tree.now b)) }
+    ensures { OnOk result (floats.new.items
+        ≡ floats.old.items ++ float_boxes (content tree.now b)) }
 {
     for kid in kids_at(tree, b) {
         add_own_floats(tree, *kid, floats)?;
@@ -169,7 +170,8 @@ pub fn floats_in(alloc: Global, tree: &BoxTree, b: u32) -> Result<Vec<u32>, Allo
     requires inline { holds_lines tree.now b ≡ true }
     ensures value { IfOk result (λ floats. floats.items ≡ flow_children tree.now b) }
     ensures each { IfOk result (λ floats. (i : ℕ) → i < length floats.items
-        → (b < slice_index_or floats.items i 0) × (slice_index_or floats.items i 0 < length tree.now.boxes)) }
+        → (b < slice_index_or floats.items i 0)
+        × (slice_index_or floats.items i 0 < length tree.now.boxes)) }
 {
     let mut floats = Vec::new(alloc);
     add_floats(tree, b, &mut floats)?;

@@ -1,8 +1,7 @@
 //! Runs of margins over any arithmetic that goes on after a halt.
-ghost use Rattle.std.specs.Prelude.{◌≡◌, ℤ, pos, List, [], ◌∷◌, IsTrue};
+ghost use Rattle.std.specs.Prelude.{◌≡◌, ℤ, pos, List, [], ◌∷◌};
 ghost use Rattle.std.specs.Int.{int_max, int_min};
-ghost use Rattle.viz_calc.specs.World.{Reading};
-ghost use Rattle.viz_calc.specs.State.{AllSmall};
+ghost use Rattle.viz_calc.specs.State.{AllSmall, WhereOpen};
 ghost use Rattle.viz_calc.specs.Run.{Stands, Goes, Fits, Blames, Lays};
 ghost use Rattle.layout_semantics.specs.Margins.{collapsed};
 ghost use Rattle.lay_margin.specs.Runs.{run_at, no_run, IsRunOf, with_margin, collapse, joined_way, value_way};
@@ -19,7 +18,8 @@ fn zero<S: Steady>(calc: &mut S) -> S::Num
 
 /// The greater of two numbers.
 fn greater<S: Steady>(calc: &mut S, a: &S::Num, b: &S::Num) -> S::Num
-    ensures { Lays S.run calc.old calc.new (S.at result) (λ e. int_max (S.at a.now e) (S.at b.now e))
+    ensures { Lays S.run calc.old calc.new (S.at result)
+        (λ e. int_max (S.at a.now e) (S.at b.now e))
         (λ e. AllSmall (int_max (S.at a.now e) (S.at b.now e) ∷ [])) }
 {
     if calc.le(b, a) {
@@ -31,7 +31,8 @@ fn greater<S: Steady>(calc: &mut S, a: &S::Num, b: &S::Num) -> S::Num
 
 /// The lesser of two numbers.
 fn lesser<S: Steady>(calc: &mut S, a: &S::Num, b: &S::Num) -> S::Num
-    ensures { Lays S.run calc.old calc.new (S.at result) (λ e. int_min (S.at a.now e) (S.at b.now e))
+    ensures { Lays S.run calc.old calc.new (S.at result)
+        (λ e. int_min (S.at a.now e) (S.at b.now e))
         (λ e. AllSmall (int_min (S.at a.now e) (S.at b.now e) ∷ [])) }
 {
     if calc.le(a, b) {
@@ -44,9 +45,10 @@ fn lesser<S: Steady>(calc: &mut S, a: &S::Num, b: &S::Num) -> S::Num
 /// The run of no margins.
 pub fn empty<S: Steady>(calc: &mut S) -> Run<S::Num>
     ensures goes { Goes (S.run calc.old) (S.run calc.new) }
-    ensures exact { (e : Reading) → IsTrue ((S.run calc.new).is_open e) → run_at S.at result e ≡ no_run }
-    ensures value { (e : Reading) → IsTrue ((S.run calc.new).is_open e) → IsRunOf (run_at S.at result e) [] }
-    ensures cause { Blames (S.run calc.old) (S.run calc.new) (Fits (S.run calc.old) (λ e. pos 0 ∷ [])) }
+    ensures exact { WhereOpen (S.run calc.new).is_open (λ e. run_at S.at result e ≡ no_run) }
+    ensures value { WhereOpen (S.run calc.new).is_open (λ e. IsRunOf (run_at S.at result e) []) }
+    ensures cause { Blames (S.run calc.old) (S.run calc.new) (Fits (S.run calc.old)
+        (λ e. pos 0 ∷ [])) }
 {
     let pos = zero(calc);
     let neg = zero(calc);
@@ -56,10 +58,11 @@ pub fn empty<S: Steady>(calc: &mut S) -> Run<S::Num>
 /// The run with one margin more.
 pub fn joined<S: Steady>(calc: &mut S, run: &Run<S::Num>, margin: &S::Num) -> Run<S::Num>
     ensures goes { Goes (S.run calc.old) (S.run calc.new) }
-    ensures exact { (e : Reading) → IsTrue ((S.run calc.new).is_open e)
-        → run_at S.at result e ≡ with_margin (run_at S.at run.now e) (S.at margin.now e) }
-    ensures value { (e : Reading) → IsTrue ((S.run calc.new).is_open e) → (margins : List ℤ)
-        → IsRunOf (run_at S.at run.now e) margins → IsRunOf (run_at S.at result e) (S.at margin.now e ∷ margins) }
+    ensures exact { WhereOpen (S.run calc.new).is_open
+        (λ e. run_at S.at result e ≡ with_margin (run_at S.at run.now e) (S.at margin.now e)) }
+    ensures value { WhereOpen (S.run calc.new).is_open (λ e. (margins : List ℤ)
+        → IsRunOf (run_at S.at run.now e) margins
+        → IsRunOf (run_at S.at result e) (S.at margin.now e ∷ margins)) }
     ensures cause { Blames (S.run calc.old) (S.run calc.new)
         (Fits (S.run calc.old) (λ e. joined_way (run_at S.at run.now e) (S.at margin.now e))) }
 {
@@ -72,8 +75,8 @@ pub fn joined<S: Steady>(calc: &mut S, run: &Run<S::Num>, margin: &S::Num) -> Ru
 pub fn value<S: Steady>(calc: &mut S, run: &Run<S::Num>) -> S::Num
     ensures goes { Goes (S.run calc.old) (S.run calc.new) }
     ensures exact { Stands (S.run calc.new) (S.at result) (λ e. collapse (run_at S.at run.now e)) }
-    ensures value { (e : Reading) → IsTrue ((S.run calc.new).is_open e) → (margins : List ℤ)
-        → IsRunOf (run_at S.at run.now e) margins → S.at result e ≡ collapsed margins }
+    ensures value { WhereOpen (S.run calc.new).is_open (λ e. (margins : List ℤ)
+        → IsRunOf (run_at S.at run.now e) margins → S.at result e ≡ collapsed margins) }
     ensures cause { Blames (S.run calc.old) (S.run calc.new) (Fits (S.run calc.old)
         (λ e. value_way (run_at S.at run.now e))) }
 {

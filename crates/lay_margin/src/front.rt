@@ -1,7 +1,6 @@
 //! The public call over any `Calc`, its engine within a `Latch`.
-ghost use Rattle.std.specs.Prelude.{◌≡◌, ◌<◌, ℤ, List, ◌++◌, length, IsTrue, IfOk, IfErr};
-ghost use Rattle.viz_calc.specs.World.{Reading};
-ghost use Rattle.viz_calc.specs.State.{Grows, AreOpen, AllSmall, CauseButMem};
+ghost use Rattle.std.specs.Prelude.{◌≡◌, ◌<◌, ℤ, List, ◌++◌, length, IfOk, IfErr};
+ghost use Rattle.viz_calc.specs.State.{Grows, AreOpen, AllSmall, CauseButMem, WhereOpen};
 ghost use Rattle.viz_calc.specs.Renderings.{band_at};
 ghost use Rattle.layout_semantics.specs.Leads.{lead as lead_of};
 ghost use Rattle.lay_margin.specs.Readings.{IsLeadAt, passed_by};
@@ -28,16 +27,20 @@ pub fn lead<C: Calc>(
 ) -> Result<Lead<C::Num>, Halt>
     requires { b < length tree.now.boxes }
     ensures grows { Grows (C.state calc.old) (C.state calc.new) }
-    ensures value { IfOk result (λ r. (e : Reading) → IsTrue ((C.state calc.new).is_open e)
-        → IsLeadAt C.at r e (lead_of tree.now e.world (passed_by past) (band_at C.at cb.now e) b)) }
-    ensures margins { IfOk result (λ r. (e : Reading) → IsTrue ((C.state calc.new).is_open e) → (margins : List ℤ)
-        → IsRunOf (run_at C.at run.old e) margins → IsRunOf (run_at C.at run.new e)
-        (margins ++ (lead_of tree.now e.world (passed_by past) (band_at C.at cb.now e) b).margins)) }
+    ensures value { IfOk result (λ r. WhereOpen (C.state calc.new).is_open
+        (λ e. IsLeadAt C.at r e (lead_of tree.now e.world (passed_by past)
+        (band_at C.at cb.now e) b))) }
+    ensures margins { IfOk result (λ r. WhereOpen (C.state calc.new).is_open
+        (λ e. (margins : List ℤ) → IsRunOf (run_at C.at run.old e) margins
+        → IsRunOf (run_at C.at run.new e)
+        (margins ++ (lead_of tree.now e.world (passed_by past)
+        (band_at C.at cb.now e) b).margins))) }
     ensures unchanged { IfErr result (λ _. run.new ≡ run.old) }
     ensures kept { AreOpen (C.state calc.old).kept (C.state calc.new) }
-    ensures cause { IfErr result (CauseButMem (C.state calc.old) (C.state calc.new) ((e : Reading)
-        → IsTrue ((C.state calc.old).is_open e) → AllSmall (ends (run_at C.at run.old e))
-        × LeadFits tree.now e.world (band_at C.at cb.now e) b)) }
+    ensures cause { IfErr result (CauseButMem (C.state calc.old) (C.state calc.new)
+        (WhereOpen (C.state calc.old).is_open
+        (λ e. AllSmall (ends (run_at C.at run.old e))
+        × LeadFits tree.now e.world (band_at C.at cb.now e) b))) }
 {
     let mut latch = Latch::new(calc);
     let found = whole_lead(tree.boxes.allocator(), &mut latch, tree, b, cb, past, run);

@@ -1,8 +1,7 @@
 //! The margins that adjoin the top of a box, going forward (CSS 2.1, 8.3.1).
-ghost use Rattle.std.specs.Prelude.{◌≡◌, ◌<◌, ◌++◌, ◌∷◌, [], ℕ, ℤ, List as Seq, length, slice_index_or, false, IsTrue};
+ghost use Rattle.std.specs.Prelude.{◌≡◌, ◌<◌, ◌++◌, ◌∷◌, [], ℕ, ℤ, List as Seq, length, slice_index_or, false};
 ghost use Rattle.std.specs.Int.{int_max, int_min};
-ghost use Rattle.viz_calc.specs.World.{Reading};
-ghost use Rattle.viz_calc.specs.State.{AllSmall};
+ghost use Rattle.viz_calc.specs.State.{AllSmall, WhereOpen};
 ghost use Rattle.viz_calc.specs.Run.{Goes, Fits, Blames, BlamesButMem, Lays, LaysButMem};
 ghost use Rattle.viz_calc.specs.Renderings.{band_at};
 ghost use Rattle.layout_semantics.specs.Lengths.{used as used_length, margins as margins_of};
@@ -48,8 +47,8 @@ pub fn copy_band<S: Steady>(calc: &mut S, band: &Band<S::Num>) -> Band<S::Num>
 fn end_at<S: Steady>(calc: &mut S, end: LeadEnd, cb: &Band<S::Num>) -> Ended<S::Num>
     ensures goes { Goes (S.run calc.old) (S.run calc.new) }
     ensures end { result.end ≡ end }
-    ensures value { (e : Reading) → IsTrue ((S.run calc.new).is_open e) → band_at S.at result.cb e
-        ≡ band_at S.at cb.now e }
+    ensures value { WhereOpen (S.run calc.new).is_open
+        (λ e. band_at S.at result.cb e ≡ band_at S.at cb.now e) }
     ensures cause { Blames (S.run calc.old) (S.run calc.new) (Fits (S.run calc.old)
         (λ e. edges (band_at S.at cb.now e))) }
 {
@@ -59,7 +58,8 @@ fn end_at<S: Steady>(calc: &mut S, end: LeadEnd, cb: &Band<S::Num>) -> Ended<S::
 
 /// Raises a number to a margin.
 fn raise<S: Steady>(calc: &mut S, pos: &mut S::Num, margin: &S::Num)
-    ensures { Lays S.run calc.old calc.new (S.at pos.new) (λ e. int_max (S.at pos.old e) (S.at margin.now e))
+    ensures { Lays S.run calc.old calc.new (S.at pos.new)
+        (λ e. int_max (S.at pos.old e) (S.at margin.now e))
         (λ e. AllSmall (S.at margin.now e ∷ [])) }
 {
     if calc.le(pos, margin) {
@@ -69,7 +69,8 @@ fn raise<S: Steady>(calc: &mut S, pos: &mut S::Num, margin: &S::Num)
 
 /// Lowers a number to a margin.
 fn lower<S: Steady>(calc: &mut S, neg: &mut S::Num, margin: &S::Num)
-    ensures { Lays S.run calc.old calc.new (S.at neg.new) (λ e. int_min (S.at neg.old e) (S.at margin.now e))
+    ensures { Lays S.run calc.old calc.new (S.at neg.new)
+        (λ e. int_min (S.at neg.old e) (S.at margin.now e))
         (λ e. AllSmall (S.at margin.now e ∷ [])) }
 {
     if calc.le(margin, neg) {
@@ -80,7 +81,8 @@ fn lower<S: Steady>(calc: &mut S, neg: &mut S::Num, margin: &S::Num)
 /// Joins a margin to a run.
 pub fn join<S: Steady>(calc: &mut S, run: &mut Run<S::Num>, margin: &S::Num)
     ensures { Lays S.run calc.old calc.new (run_at S.at run.new)
-        (λ e. with_margin (run_at S.at run.old e) (S.at margin.now e)) (λ e. AllSmall (S.at margin.now e ∷ [])) }
+        (λ e. with_margin (run_at S.at run.old e) (S.at margin.now e))
+        (λ e. AllSmall (S.at margin.now e ∷ [])) }
 {
     raise(calc, &mut run.pos, margin);
     lower(calc, &mut run.neg, margin);
@@ -161,7 +163,8 @@ pub fn join_top<S: Steady>(
     run: &mut Run<S::Num>,
 )
     ensures { Lays S.run calc.old calc.new (run_at S.at run.new)
-        (λ e. with_margin (run_at S.at run.old e) (margin_above tree.now e.world (band_at S.at cb.now e) b))
+        (λ e. with_margin (run_at S.at run.old e)
+        (margin_above tree.now e.world (band_at S.at cb.now e) b))
         (λ e. MarginFits tree.now e.world (margins_of tree.now b).top (band_at S.at cb.now e)) }
 {
     let margin = margin_in(calc, tree, cb, &margins(tree, b).top);
@@ -178,7 +181,8 @@ pub fn join_bottom<S: Steady>(
     run: &mut Run<S::Num>,
 )
     ensures { Lays S.run calc.old calc.new (run_at S.at run.new)
-        (λ e. with_margin (run_at S.at run.old e) (margin_below tree.now e.world (band_at S.at cb.now e) b))
+        (λ e. with_margin (run_at S.at run.old e)
+        (margin_below tree.now e.world (band_at S.at cb.now e) b))
         (λ e. MarginFits tree.now e.world (margins_of tree.now b).bottom (band_at S.at cb.now e)) }
 {
     let margin = margin_in(calc, tree, cb, &margins(tree, b).bottom);
@@ -218,8 +222,9 @@ pub fn lead<S: Steady>(
 ) -> Ended<S::Num>
     requires { b < length tree.now.boxes }
     ensures { LaysButMem S.run calc.old calc.new (going_at S.at run.new waiting.new result)
-        (λ e. lead_of tree.now e.world (passed_by past) (band_at S.at cb.now e) b (run_at S.at run.old e)
-        (floats_at S.at waiting.old e)) (λ e. LeadFits tree.now e.world (band_at S.at cb.now e) b) }
+        (λ e. lead_of tree.now e.world (passed_by past) (band_at S.at cb.now e) b
+        (run_at S.at run.old e) (floats_at S.at waiting.old e))
+        (λ e. LeadFits tree.now e.world (band_at S.at cb.now e) b) }
 {
     if stops_at(tree, past, b) {
         return end_at(calc, LeadEnd::Cleared(b), cb);
@@ -241,8 +246,9 @@ fn inner<S: Steady>(
 ) -> Ended<S::Num>
     requires { b < length tree.now.boxes }
     ensures { LaysButMem S.run calc.old calc.new (going_at S.at run.new waiting.new result)
-        (λ e. inner_of tree.now e.world (passed_by past) (band_at S.at cb.now e) b (run_at S.at run.old e)
-        (floats_at S.at waiting.old e)) (λ e. LeadFits tree.now e.world (band_at S.at cb.now e) b) }
+        (λ e. inner_of tree.now e.world (passed_by past) (band_at S.at cb.now e) b
+        (run_at S.at run.old e) (floats_at S.at waiting.old e))
+        (λ e. LeadFits tree.now e.world (band_at S.at cb.now e) b) }
 {
     join_top(calc, tree, cb, b, run);
     if !enters(tree, b) {
@@ -292,8 +298,8 @@ fn content<S: Steady>(
 ) -> Ended<S::Num>
     requires { b < length tree.now.boxes }
     ensures { LaysButMem S.run calc.old calc.new (going_at S.at run.new waiting.new result)
-        (λ e. content_of tree.now e.world (passed_by past) (band_at S.at band.now e) (flow_children tree.now b)
-        (run_at S.at run.old e) (floats_at S.at waiting.old e))
+        (λ e. content_of tree.now e.world (passed_by past) (band_at S.at band.now e)
+        (flow_children tree.now b) (run_at S.at run.old e) (floats_at S.at waiting.old e))
         (λ e. KidsFit tree.now e.world (band_at S.at band.now e) (flow_children tree.now b)) }
 {
     if !holds_inline(tree, b) {
@@ -344,7 +350,8 @@ fn kids<S: Steady>(
 ) -> Ended<S::Num>
     requires within { b < length tree.now.boxes }
     requires behind { (i : ℕ) → i < length boxes.now
-        → (b < slice_index_or boxes.now i 0) × (slice_index_or boxes.now i 0 < length tree.now.boxes) }
+        → (b < slice_index_or boxes.now i 0)
+        × (slice_index_or boxes.now i 0 < length tree.now.boxes) }
     ensures { LaysButMem S.run calc.old calc.new (going_at S.at run.new waiting.new result)
         (λ e. content_of tree.now e.world (passed_by past) (band_at S.at band.now e) boxes.now
         (run_at S.at run.old e) (floats_at S.at waiting.old e))
@@ -374,10 +381,11 @@ fn kid<S: Steady>(
     requires { k < length tree.now.boxes }
     ensures { LaysButMem S.run calc.old calc.new (going_at S.at run.new waiting.new result)
         (λ e. kid_going tree.now e.world (passed_by past)
-        (lead_of tree.now e.world (passed_by past) (band_at S.at band.now e)) (band_at S.at band.now e) k
-        (run_at S.at run.old e) (floats_at S.at waiting.old e))
+        (lead_of tree.now e.world (passed_by past) (band_at S.at band.now e))
+        (band_at S.at band.now e) k (run_at S.at run.old e) (floats_at S.at waiting.old e))
         (λ e. AllSmall (edges (band_at S.at band.now e))
-        × (is_floated_at tree.now k ≡ false → LeadFits tree.now e.world (band_at S.at band.now e) k)) }
+        × (is_floated_at tree.now k ≡ false
+        → LeadFits tree.now e.world (band_at S.at band.now e) k)) }
 {
     if floats_at(tree, k) {
         wait(calc, band, k, waiting);
@@ -422,13 +430,17 @@ pub fn whole_lead<S: Steady>(
 ) -> Joined<S::Num>
     requires { b < length tree.now.boxes }
     ensures goes { Goes (S.run calc.old) (S.run calc.new) }
-    ensures value { (e : Reading) → IsTrue ((S.run calc.new).is_open e) → joined_at S.at result e
-        ≡ led_by (run_at S.at run.now e) [] (landed tree.now e.world (passed_by past) (band_at S.at cb.now e) b) }
-    ensures margins { (e : Reading) → IsTrue ((S.run calc.new).is_open e) → (margins : Seq ℤ)
-        → IsRunOf (run_at S.at run.now e) margins → IsRunOf (run_at S.at result.run e)
-        (margins ++ (landed tree.now e.world (passed_by past) (band_at S.at cb.now e) b).margins) }
-    ensures cause { BlamesButMem (S.run calc.old) (S.run calc.new) ((e : Reading) → IsTrue ((S.run calc.old).is_open e)
-        → AllSmall (ends (run_at S.at run.now e)) × LeadFits tree.now e.world (band_at S.at cb.now e) b) }
+    ensures value { WhereOpen (S.run calc.new).is_open
+        (λ e. joined_at S.at result e ≡ led_by (run_at S.at run.now e) []
+        (landed tree.now e.world (passed_by past) (band_at S.at cb.now e) b)) }
+    ensures margins { WhereOpen (S.run calc.new).is_open (λ e. (margins : Seq ℤ)
+        → IsRunOf (run_at S.at run.now e) margins
+        → IsRunOf (run_at S.at result.run e)
+        (margins ++ (landed tree.now e.world (passed_by past) (band_at S.at cb.now e) b).margins)) }
+    ensures cause { BlamesButMem (S.run calc.old) (S.run calc.new)
+        (WhereOpen (S.run calc.old).is_open
+        (λ e. AllSmall (ends (run_at S.at run.now e))
+        × LeadFits tree.now e.world (band_at S.at cb.now e) b)) }
 {
     let mut own = copy_run(calc, run);
     let mut waiting = List::new(alloc);

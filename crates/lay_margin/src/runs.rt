@@ -1,6 +1,5 @@
-ghost use Rattle.std.specs.Prelude.{◌≡◌, ℤ, pos, List, [], ◌∷◌, IsTrue, IfOk, IfErr};
-ghost use Rattle.viz_calc.specs.World.{Reading};
-ghost use Rattle.viz_calc.specs.State.{Grows, AreOpen, Fits, Cause};
+ghost use Rattle.std.specs.Prelude.{◌≡◌, ℤ, pos, List, [], ◌∷◌, IfOk, IfErr};
+ghost use Rattle.viz_calc.specs.State.{Grows, AreOpen, Fits, Cause, WhereOpen};
 ghost use Rattle.layout_semantics.specs.Margins.{collapsed};
 ghost use Rattle.lay_margin.specs.Runs.{run_at, IsRunOf, joined_way, value_way};
 
@@ -20,11 +19,11 @@ impl<N: Drop> Run<N> {
     /// The run of no margins. `Coeff` where a coefficient passes its limit; `Mem` and `Open` as the calc gives them.
     pub fn empty<C: Calc<Num = N>>(calc: &mut C) -> Result<Self, Halt>
         ensures grows { Grows (C.state calc.old) (C.state calc.new) }
-        ensures value { IfOk result (λ r. (e : Reading) → IsTrue ((C.state calc.new).is_open e)
-            → IsRunOf (run_at C.at r e) []) }
+        ensures value { IfOk result (λ r. WhereOpen (C.state calc.new).is_open
+            (λ e. IsRunOf (run_at C.at r e) [])) }
         ensures kept { AreOpen (C.state calc.old).kept (C.state calc.new) }
-        ensures cause { IfErr result (Cause (C.state calc.old) (C.state calc.new) (Fits (C.state calc.old)
-            (λ e. pos 0 ∷ []))) }
+        ensures cause { IfErr result (Cause (C.state calc.old) (C.state calc.new)
+            (Fits (C.state calc.old) (λ e. pos 0 ∷ []))) }
     {
         let mut latch = Latch::new(calc);
         let run = engine::empty(&mut latch);
@@ -34,13 +33,14 @@ impl<N: Drop> Run<N> {
     /// Joins a margin. Errors as those of `empty`; the run is then as before.
     pub fn join<C: Calc<Num = N>>(&mut self, calc: &mut C, margin: &N) -> Result<(), Halt>
         ensures grows { Grows (C.state calc.old) (C.state calc.new) }
-        ensures value { IfOk result (λ _. (e : Reading) → IsTrue ((C.state calc.new).is_open e) → (margins : List ℤ)
-            → IsRunOf (run_at C.at self.old e) margins
-            → IsRunOf (run_at C.at self.new e) (C.at margin.now e ∷ margins)) }
+        ensures value { IfOk result (λ _. WhereOpen (C.state calc.new).is_open
+            (λ e. (margins : List ℤ) → IsRunOf (run_at C.at self.old e) margins
+            → IsRunOf (run_at C.at self.new e) (C.at margin.now e ∷ margins))) }
         ensures unchanged { IfErr result (λ _. self.new ≡ self.old) }
         ensures kept { AreOpen (C.state calc.old).kept (C.state calc.new) }
         ensures cause { IfErr result (Cause (C.state calc.old) (C.state calc.new)
-            (Fits (C.state calc.old) (λ e. joined_way (run_at C.at self.old e) (C.at margin.now e)))) }
+            (Fits (C.state calc.old) (λ e. joined_way (run_at C.at self.old e)
+            (C.at margin.now e)))) }
     {
         let mut latch = Latch::new(calc);
         let run = engine::joined(&mut latch, self, margin);
@@ -51,11 +51,12 @@ impl<N: Drop> Run<N> {
     /// The margin that the margins collapse to. Errors as those of `empty`.
     pub fn value<C: Calc<Num = N>>(&self, calc: &mut C) -> Result<N, Halt>
         ensures grows { Grows (C.state calc.old) (C.state calc.new) }
-        ensures value { IfOk result (λ r. (e : Reading) → IsTrue ((C.state calc.new).is_open e) → (margins : List ℤ)
-            → IsRunOf (run_at C.at self.now e) margins → C.at r e ≡ collapsed margins) }
+        ensures value { IfOk result (λ r. WhereOpen (C.state calc.new).is_open
+            (λ e. (margins : List ℤ) → IsRunOf (run_at C.at self.now e) margins
+            → C.at r e ≡ collapsed margins)) }
         ensures kept { AreOpen (C.state calc.old).kept (C.state calc.new) }
-        ensures cause { IfErr result (Cause (C.state calc.old) (C.state calc.new) (Fits (C.state calc.old)
-            (λ e. value_way (run_at C.at self.now e)))) }
+        ensures cause { IfErr result (Cause (C.state calc.old) (C.state calc.new)
+            (Fits (C.state calc.old) (λ e. value_way (run_at C.at self.now e)))) }
     {
         let mut latch = Latch::new(calc);
         let value = engine::value(&mut latch, self);

@@ -22,7 +22,8 @@ pub fn kids_at(tree: &BoxTree, b: u32) -> &[u32]
     requires { b < length tree.now.boxes }
     ensures value { result.now ≡ kids_of tree.now.boxes b }
     ensures each { (i : ℕ) → i < length result.now
-        → (b < slice_index_or result.now i 0) × (slice_index_or result.now i 0 < length tree.now.boxes) }
+        → (b < slice_index_or result.now i 0)
+        × (slice_index_or result.now i 0 < length tree.now.boxes) }
 {
     lay_width::properties::kids_at(tree, b)
 }

@@ -37,7 +37,8 @@ pub fn no_children<N>() -> Column<N>
 
 /// The greatest width of floats that follow one another up to this one.
 fn beside<S: Steady>(calc: &mut S, floats: Option<S::Num>, width: S::Num) -> S::Num
-    ensures { Lays S.run calc.old calc.new (S.at result) (λ e. beside_of (option_at S.at floats e) (S.at width e))
+    ensures { Lays S.run calc.old calc.new (S.at result)
+        (λ e. beside_of (option_at S.at floats e) (S.at width e))
         (λ e. AllSmall (beside_of (option_at S.at floats e) (S.at width e) ∷ [])) }
 {
     match floats {
@@ -111,8 +112,8 @@ pub fn with_child<S: Steady>(
 
 /// The preferred widths of the whole.
 pub fn whole<S: Steady>(calc: &mut S, column: Column<S::Num>) -> Preferred<S::Num>
-    ensures { Lays S.run calc.old calc.new (preferred_at S.at result) (λ e. whole_of (column_at S.at column e))
-        (λ e. ⊤) }
+    ensures { Lays S.run calc.old calc.new (preferred_at S.at result)
+        (λ e. whole_of (column_at S.at column e)) (λ e. ⊤) }
 {
     let least = or_zero(calc, column.least);
     let most = or_zero(calc, column.most);

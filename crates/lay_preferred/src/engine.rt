@@ -1,7 +1,7 @@
 //! The preferred widths of boxes, down their tree (CSS 2.1, 10.3.5).
-ghost use Rattle.std.specs.Prelude.{◌≡◌, ◌<◌, IsTrue, length};
+ghost use Rattle.std.specs.Prelude.{◌≡◌, ◌<◌, length};
+ghost use Rattle.viz_calc.specs.State.{WhereOpen};
 ghost use Rattle.std.specs.List.{AllByRecursion};
-ghost use Rattle.viz_calc.specs.World.{Reading};
 ghost use Rattle.viz_calc.specs.Run.{Goes, BlamesButMem};
 ghost use Rattle.layout_semantics.specs.Preferred.{inside_of, inline_content, blocks, preferred as preferred_of};
 ghost use Rattle.lay_width.specs.Readings.{preferred_at};
@@ -39,8 +39,8 @@ fn outer<S: Steady>(
     requires found { AreFound S.at (S.run calc.old) tree.now found.old.widths.items }
     ensures goes { Goes (S.run calc.old) (S.run calc.new) }
     ensures found { AreFound S.at (S.run calc.new) tree.now found.new.widths.items }
-    ensures value { (e : Reading) → IsTrue ((S.run calc.new).is_open e) → preferred_at S.at result e
-        ≡ outer_of tree.now e.world at }
+    ensures value { WhereOpen (S.run calc.new).is_open
+        (λ e. preferred_at S.at result e ≡ outer_of tree.now e.world at) }
     ensures cause { BlamesButMem (S.run calc.old) (S.run calc.new)
         (BoxesFit tree.now (S.run calc.old).is_open) }
 {
@@ -67,11 +67,12 @@ fn item_widths<S: Steady>(
     requires found { AreFound S.at (S.run calc.old) tree.now found.old.widths.items }
     ensures goes { Goes (S.run calc.old) (S.run calc.new) }
     ensures found { AreFound S.at (S.run calc.new) tree.now found.new.widths.items }
-    ensures value { (e : Reading) → IsTrue ((S.run calc.new).is_open e) → preferred_at S.at result e
-        ≡ widths_of tree.now e.world (item_of item.now) }
+    ensures value { WhereOpen (S.run calc.new).is_open
+        (λ e. preferred_at S.at result e ≡ widths_of tree.now e.world (item_of item.now)) }
     ensures cause { BlamesButMem (S.run calc.old) (S.run calc.new)
         (BoxesFit tree.now (S.run calc.old).is_open
-        × ((e : Reading) → IsTrue ((S.run calc.old).is_open e) → ItemFits tree.now e.world (item_of item.now))) }
+        × (WhereOpen (S.run calc.old).is_open
+        (λ e. ItemFits tree.now e.world (item_of item.now)))) }
 {
     match item {
         Item::Atomic(at) | Item::Float(at) => outer(alloc, calc, tree, *at, found),
@@ -97,12 +98,13 @@ fn measure<'a, S: Steady>(
     requires found { AreFound S.at (S.run calc.old) tree.now found.old.widths.items }
     ensures goes { Goes (S.run calc.old) (S.run calc.new) }
     ensures found { AreFound S.at (S.run calc.new) tree.now found.new.widths.items }
-    ensures value { (e : Reading) → IsTrue ((S.run calc.new).is_open e) → sizes_at S.at result.items e
-        ≡ sized (widths_of tree.now e.world) (items_of items.now) }
+    ensures value { WhereOpen (S.run calc.new).is_open
+        (λ e. sizes_at S.at result.items e
+        ≡ sized (widths_of tree.now e.world) (items_of items.now)) }
     ensures cause { BlamesButMem (S.run calc.old) (S.run calc.new)
         (BoxesFit tree.now (S.run calc.old).is_open
-        × ((e : Reading) → IsTrue ((S.run calc.old).is_open e)
-        → AllByRecursion (ItemFits tree.now e.world) (items_of items.now))) }
+        × (WhereOpen (S.run calc.old).is_open
+        (λ e. AllByRecursion (ItemFits tree.now e.world) (items_of items.now)))) }
 {
     let mut pieces = Vec::new(alloc);
     for item in items {
@@ -125,8 +127,8 @@ fn of_inline<S: Steady>(
     requires found { AreFound S.at (S.run calc.old) tree.now found.old.widths.items }
     ensures goes { Goes (S.run calc.old) (S.run calc.new) }
     ensures found { AreFound S.at (S.run calc.new) tree.now found.new.widths.items }
-    ensures value { (e : Reading) → IsTrue ((S.run calc.new).is_open e) → preferred_at S.at result e
-        ≡ inline_in tree.now e.world b }
+    ensures value { WhereOpen (S.run calc.new).is_open
+        (λ e. preferred_at S.at result e ≡ inline_in tree.now e.world b) }
     ensures cause { BlamesButMem (S.run calc.old) (S.run calc.new)
         (BoxesFit tree.now (S.run calc.old).is_open × (inside_of tree.now b ≡ inline_content)) }
 {
@@ -156,8 +158,8 @@ fn of_blocks<S: Steady>(
     requires found { AreFound S.at (S.run calc.old) tree.now found.old.widths.items }
     ensures goes { Goes (S.run calc.old) (S.run calc.new) }
     ensures found { AreFound S.at (S.run calc.new) tree.now found.new.widths.items }
-    ensures value { (e : Reading) → IsTrue ((S.run calc.new).is_open e) → preferred_at S.at result e
-        ≡ blocks_in tree.now e.world b }
+    ensures value { WhereOpen (S.run calc.new).is_open
+        (λ e. preferred_at S.at result e ≡ blocks_in tree.now e.world b) }
     ensures cause { BlamesButMem (S.run calc.old) (S.run calc.new)
         (BoxesFit tree.now (S.run calc.old).is_open × (inside_of tree.now b ≡ blocks)) }
 {
@@ -182,8 +184,8 @@ fn computed<S: Steady>(
     requires found { AreFound S.at (S.run calc.old) tree.now found.old.widths.items }
     ensures goes { Goes (S.run calc.old) (S.run calc.new) }
     ensures found { AreFound S.at (S.run calc.new) tree.now found.new.widths.items }
-    ensures value { (e : Reading) → IsTrue ((S.run calc.new).is_open e) → preferred_at S.at result e
-        ≡ preferred_of tree.now e.world b }
+    ensures value { WhereOpen (S.run calc.new).is_open
+        (λ e. preferred_at S.at result e ≡ preferred_of tree.now e.world b) }
     ensures cause { BlamesButMem (S.run calc.old) (S.run calc.new)
         (BoxesFit tree.now (S.run calc.old).is_open) }
 {
@@ -207,8 +209,8 @@ pub fn preferred<S: Steady>(
     requires found { AreFound S.at (S.run calc.old) tree.now found.old.widths.items }
     ensures goes { Goes (S.run calc.old) (S.run calc.new) }
     ensures found { AreFound S.at (S.run calc.new) tree.now found.new.widths.items }
-    ensures value { (e : Reading) → IsTrue ((S.run calc.new).is_open e) → preferred_at S.at result e
-        ≡ preferred_of tree.now e.world b }
+    ensures value { WhereOpen (S.run calc.new).is_open
+        (λ e. preferred_at S.at result e ≡ preferred_of tree.now e.world b) }
     ensures cause { BlamesButMem (S.run calc.old) (S.run calc.new)
         (BoxesFit tree.now (S.run calc.old).is_open) }
 {

@@ -10,8 +10,8 @@ use viz_calc::Steady;
 
 /// A number, or a greater one that was there.
 pub fn larger<S: Steady>(calc: &mut S, best: Option<S::Num>, width: S::Num) -> S::Num
-    ensures { Lays S.run calc.old calc.new (S.at result) (λ e. larger_of (option_at S.at best e) (S.at width e))
-        (λ e. ⊤) }
+    ensures { Lays S.run calc.old calc.new (S.at result)
+        (λ e. larger_of (option_at S.at best e) (S.at width e)) (λ e. ⊤) }
 {
     match best {
         Some(best) => greater(calc, best, width),
@@ -21,7 +21,8 @@ pub fn larger<S: Steady>(calc: &mut S, best: Option<S::Num>, width: S::Num) -> S
 
 /// The number, or 0 where there is none.
 pub fn or_zero<S: Steady>(calc: &mut S, best: Option<S::Num>) -> S::Num
-    ensures { Lays S.run calc.old calc.new (S.at result) (λ e. of_or_zero (option_at S.at best e)) (λ e. ⊤) }
+    ensures { Lays S.run calc.old calc.new (S.at result) (λ e. of_or_zero (option_at S.at best e))
+        (λ e. ⊤) }
 {
     match best {
         Some(best) => best,

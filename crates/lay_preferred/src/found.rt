@@ -47,7 +47,8 @@ pub fn nothing_found<S: Steady>(alloc: Global, calc: &mut S, tree: &BoxTree) -> 
 
 /// What was found of a box.
 pub fn found_of<N>(found: &Found<N>, at: u32) -> Option<&Preferred<N>>
-    ensures { IfSome result (λ widths. slice_get found.now.widths.items at ≡ Some (Some widths.now)) }
+    ensures { IfSome result (λ widths. slice_get found.now.widths.items at
+        ≡ Some (Some widths.now)) }
 {
     match found.widths.get(at as usize) {
         Some(Some(widths)) => Some(widths),

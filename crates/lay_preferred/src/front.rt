@@ -1,7 +1,6 @@
 //! The public call over any `Calc`, its engine within a `Latch`.
-ghost use Rattle.std.specs.Prelude.{◌≡◌, ◌<◌, length, IsTrue, IfOk, IfErr};
-ghost use Rattle.viz_calc.specs.World.{Reading};
-ghost use Rattle.viz_calc.specs.State.{Grows, AreOpen, CauseButMem};
+ghost use Rattle.std.specs.Prelude.{◌≡◌, ◌<◌, length, IfOk, IfErr};
+ghost use Rattle.viz_calc.specs.State.{Grows, AreOpen, CauseButMem, WhereOpen};
 ghost use Rattle.layout_semantics.specs.Preferred.{preferred as preferred_of};
 ghost use Rattle.lay_width.specs.Readings.{preferred_at};
 ghost use Rattle.lay_preferred.specs.Fitting.{AreSmallBoxes};
@@ -18,8 +17,8 @@ use viz_calc::{Calc, Halt, Latch};
 pub fn preferred<C: Calc>(calc: &mut C, tree: &BoxTree, b: u32) -> Result<Preferred<C::Num>, Halt>
     requires { b < length tree.now.boxes }
     ensures grows { Grows (C.state calc.old) (C.state calc.new) }
-    ensures value { IfOk result (λ r. (e : Reading) → IsTrue ((C.state calc.new).is_open e)
-        → preferred_at C.at r e ≡ preferred_of tree.now e.world b) }
+    ensures value { IfOk result (λ r. WhereOpen (C.state calc.new).is_open
+        (λ e. preferred_at C.at r e ≡ preferred_of tree.now e.world b)) }
     ensures kept { AreOpen (C.state calc.old).kept (C.state calc.new) }
     ensures cause { IfErr result (CauseButMem (C.state calc.old) (C.state calc.new)
         (AreSmallBoxes tree.now (C.state calc.old).is_open)) }

@@ -96,9 +96,8 @@ pub fn add_piece<'a, S: Steady>(
 /// The preferred minimum width of inline content in these stretches: the widest of them, or float.
 fn least_of<S: Steady>(calc: &mut S, pieces: &[Piece<Preferred<S::Num>>], marks: &[bool]) -> S::Num
     ensures { Lays S.run calc.old calc.new (S.at result)
-        (λ e. of_or_zero
-        (float_of (widest least_width None (parts_at S.at pieces.now marks.now e)) (sizes_at S.at pieces.now e)))
-        (λ e. IsHalf (leasts (sizes_at S.at pieces.now e))) }
+        (λ e. of_or_zero (float_of (widest least_width None (parts_at S.at pieces.now marks.now e))
+        (sizes_at S.at pieces.now e))) (λ e. IsHalf (leasts (sizes_at S.at pieces.now e))) }
 {
     let widest = widest_stretch(calc, Stretches { pieces, marks });
     let widest = widest_float(calc, widest, pieces);
@@ -148,8 +147,8 @@ fn most_inline<S: Steady>(
     pieces: &[Piece<Preferred<S::Num>>],
 ) -> S::Num
     ensures { LaysButMem S.run calc.old calc.new (S.at result)
-        (λ e. of_or_zero
-        (widest most_width None (parts_at S.at pieces.now (marks_of never None None (items_of items.now)) e)))
+        (λ e. of_or_zero (widest most_width None
+        (parts_at S.at pieces.now (marks_of never None None (items_of items.now)) e)))
         (λ e. IsHalf (mosts (sizes_at S.at pieces.now e))) }
 {
     match marks(alloc, tree, Parting::Never, items) {
@@ -171,7 +170,8 @@ pub fn inline_widths<S: Steady>(
 ) -> Preferred<S::Num>
     ensures { LaysButMem S.run calc.old calc.new (preferred_at S.at result)
         (λ e. inline_of tree.now (items_of items.now) (sizes_at S.at pieces.now e))
-        (λ e. IsHalf (leasts (sizes_at S.at pieces.now e)) × IsHalf (mosts (sizes_at S.at pieces.now e))) }
+        (λ e. IsHalf (leasts (sizes_at S.at pieces.now e))
+        × IsHalf (mosts (sizes_at S.at pieces.now e))) }
 {
     let least = least_inline(alloc, calc, tree, items, pieces);
     let most = most_inline(alloc, calc, tree, items, pieces);
@@ -191,7 +191,8 @@ fn space_width<S: Steady>(calc: &mut S, tree: &BoxTree, at: u32) -> S::Num
 /// What an item takes that is no box.
 pub fn item_width<S: Steady>(calc: &mut S, tree: &BoxTree, item: &Item) -> S::Num
     requires { IsShort (item_of item.now) }
-    ensures { Lays S.run calc.old calc.new (S.at result) (λ e. width_of tree.now e.world (item_of item.now))
+    ensures { Lays S.run calc.old calc.new (S.at result)
+        (λ e. width_of tree.now e.world (item_of item.now))
         (λ e. ItemFits tree.now e.world (item_of item.now)) }
 {
     match item {

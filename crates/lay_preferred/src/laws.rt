@@ -1,4 +1,5 @@
-ghost use Rattle.std.specs.Prelude.{◌≡◌, ◌<◌, ◌≤◌, ◌^◌, ℕ, Bool, true, false, IsTrue, length};
+ghost use Rattle.std.specs.Prelude.{◌≡◌, ◌<◌, ◌≤◌, ◌^◌, ℕ, Bool, true, false, length};
+ghost use Rattle.viz_calc.specs.State.{WhereOpen};
 ghost use Rattle.viz_base.specs.declared.trees.BoxTree.{BoxTree};
 ghost use Rattle.viz_base.specs.declared.worlds.World.{World};
 ghost use Rattle.viz_calc.specs.World.{Reading};
@@ -31,18 +32,19 @@ pub fn outer_widths_by_width()
 
 /// Boxes that are small by themselves have preferred widths of at most 2^58 units, and fit with what is in them.
 pub fn preferred_widths_of_small_boxes(tree: &BoxTree)
-    ensures fit { (is_open : Reading → Bool) → AreSmallBoxes tree.now is_open → BoxesFit tree.now is_open }
+    ensures fit { (is_open : Reading → Bool) → AreSmallBoxes tree.now is_open
+        → BoxesFit tree.now is_open }
     ensures inside { (is_open : Reading → Bool) → AreSmallBoxes tree.now is_open
-        → (e : Reading) → IsTrue (is_open e) → (at : ℕ) → at < length tree.now.boxes
-        → AreWithin (2 ^ 58) (preferred tree.now e.world at) }
+        → WhereOpen is_open (λ e. (at : ℕ) → at < length tree.now.boxes
+        → AreWithin (2 ^ 58) (preferred tree.now e.world at)) }
     ensures outer { (is_open : Reading → Bool) → AreSmallBoxes tree.now is_open
-        → (e : Reading) → IsTrue (is_open e) → (at : ℕ) → at < length tree.now.boxes
-        → AreWithin (2 ^ 58) (outer tree.now e.world at) }
+        → WhereOpen is_open (λ e. (at : ℕ) → at < length tree.now.boxes
+        → AreWithin (2 ^ 58) (outer tree.now e.world at)) }
 {}
 
 /// The boxes of a small page are small by themselves, at default font sizes of at most 256 px.
 pub fn boxes_of_a_small_page_are_small(tree: &BoxTree)
     requires small { IsSmallPage tree.now }
-    ensures { (is_open : Reading → Bool) → ((e : Reading) → IsTrue (is_open e) → e.world.s ≤ 256)
+    ensures { (is_open : Reading → Bool) → (WhereOpen is_open (λ e. e.world.s ≤ 256))
         → AreSmallBoxes tree.now is_open }
 {}

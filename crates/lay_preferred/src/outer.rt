@@ -37,7 +37,8 @@ fn absolute_part<S: Steady>(calc: &mut S, tree: &BoxTree, length: &Length) -> S:
 
 /// A length in front of others.
 fn before<S: Steady>(calc: &mut S, tree: &BoxTree, length: &Length, rest: &S::Num) -> S::Num
-    ensures { Lays S.run calc.old calc.new (S.at result) (λ e. edge tree.now e.world length.now +ℤ S.at rest.now e)
+    ensures { Lays S.run calc.old calc.new (S.at result)
+        (λ e. edge tree.now e.world length.now +ℤ S.at rest.now e)
         (λ e. UsedFits tree.now e.world length.now (pos 0)
         × AllSmall ((edge tree.now e.world length.now +ℤ S.at rest.now e) ∷ [])) }
 {
@@ -55,8 +56,9 @@ fn side_before<S: Steady>(
     rest: &S::Num,
 ) -> S::Num
     ensures { Lays S.run calc.old calc.new (S.at result)
-        (λ e. edge tree.now e.world margin.now
-        +ℤ (edge tree.now e.world border.now +ℤ (edge tree.now e.world padding.now +ℤ S.at rest.now e)))
+        (λ e. edge tree.now e.world margin.now +ℤ
+        (edge tree.now e.world border.now +ℤ
+        (edge tree.now e.world padding.now +ℤ S.at rest.now e)))
         (λ e. SideFits tree.now e.world margin.now border.now padding.now (S.at rest.now e)) }
 {
     let rest = before(calc, tree, padding, rest);
@@ -120,8 +122,10 @@ fn edges<S: Steady>(calc: &mut S, tree: &BoxTree, at: u32) -> S::Num
 /// The maximum width of a box, where it has one that is no percentage.
 fn most_width<S: Steady>(calc: &mut S, tree: &BoxTree, at: u32) -> Option<S::Num>
     ensures { Lays S.run calc.old calc.new (option_at S.at result)
-        (λ e. maximum (if_absolute tree.now e.world) (own tree.now at (λ (s : StyleOf). s.max_width) None))
-        (λ e. MostFits tree.now e.world (own tree.now at (λ (s : StyleOf). s.max_width) None) (pos 0)) }
+        (λ e. maximum (if_absolute tree.now e.world) (own tree.now at
+        (λ (s : StyleOf). s.max_width) None))
+        (λ e. MostFits tree.now e.world (own tree.now at (λ (s : StyleOf). s.max_width) None)
+        (pos 0)) }
 {
     match own_most(tree, at) {
         Some(most) => used_if_absolute(calc, tree, &most),
@@ -132,7 +136,8 @@ fn most_width<S: Steady>(calc: &mut S, tree: &BoxTree, at: u32) -> Option<S::Num
 #[tactic(auto, unfolding(crate::specs::steps::Outer::held_of, crate::specs::steps::Outer::edge))]
 /// A width between the minimum and the maximum of a box; a percentage counts 0 as a minimum, and as a maximum none.
 fn held<S: Steady>(calc: &mut S, tree: &BoxTree, at: u32, width: S::Num) -> S::Num
-    ensures { Lays S.run calc.old calc.new (S.at result) (λ e. held_of tree.now e.world at (S.at width e))
+    ensures { Lays S.run calc.old calc.new (S.at result)
+        (λ e. held_of tree.now e.world at (S.at width e))
         (λ e. HoldFits tree.now e.world at (pos 0)) }
 {
     let most = most_width(calc, tree, at);
@@ -143,7 +148,8 @@ fn held<S: Steady>(calc: &mut S, tree: &BoxTree, at: u32, width: S::Num) -> S::N
 #[tactic(auto, unfolding(crate::specs::steps::Outer::with_edges))]
 /// So wide a box, held, with its edges.
 fn with_edges<S: Steady>(calc: &mut S, tree: &BoxTree, at: u32, width: S::Num) -> S::Num
-    ensures { Lays S.run calc.old calc.new (S.at result) (λ e. edged tree.now e.world at (S.at width e))
+    ensures { Lays S.run calc.old calc.new (S.at result)
+        (λ e. edged tree.now e.world at (S.at width e))
         (λ e. AroundFits tree.now e.world at (S.at width e)) }
 {
     let held = held(calc, tree, at, width);
@@ -163,8 +169,8 @@ pub fn is_given(tree: &BoxTree, at: u32) -> bool
 #[tactic(auto, unfolding(crate::specs::steps::Outer::given))]
 /// The outer widths of a box whose width is what its `width` says.
 pub fn given<S: Steady>(calc: &mut S, tree: &BoxTree, at: u32) -> Preferred<S::Num>
-    ensures { Lays S.run calc.old calc.new (preferred_at S.at result) (λ e. given_of tree.now e.world at)
-        (λ e. GivenFits tree.now e.world at) }
+    ensures { Lays S.run calc.old calc.new (preferred_at S.at result)
+        (λ e. given_of tree.now e.world at) (λ e. GivenFits tree.now e.world at) }
 {
     let width = absolute_part(calc, tree, &own_width(tree, at));
     let least = with_edges(calc, tree, at, width);
@@ -210,7 +216,8 @@ fn tentative<S: Steady>(calc: &mut S, tree: &BoxTree, at: u32) -> S::Num
         (λ e. tentative_of (intrinsic_of tree.now at)
         (if_absolute tree.now e.world (own tree.now at (λ (s : StyleOf). s.width) of_length.Auto))
         (if_absolute tree.now e.world (own tree.now at (λ (s : StyleOf). s.height) of_length.Auto)))
-        (λ e. UsedFits tree.now e.world (width_of tree.now at) (pos 0) × ByHeightFits tree.now e.world at) }
+        (λ e. UsedFits tree.now e.world (width_of tree.now at) (pos 0)
+        × ByHeightFits tree.now e.world at) }
 {
     match used_if_absolute(calc, tree, &own_width(tree, at)) {
         Some(width) => width,
@@ -221,8 +228,8 @@ fn tentative<S: Steady>(calc: &mut S, tree: &BoxTree, at: u32) -> S::Num
 #[tactic(auto, unfolding(crate::specs::steps::Outer::replaced, crate::specs::steps::Outer::held_of))]
 /// The preferred widths of a replaced box (CSS 2.1, 10.3.2).
 pub fn replaced<S: Steady>(calc: &mut S, tree: &BoxTree, at: u32) -> Preferred<S::Num>
-    ensures { Lays S.run calc.old calc.new (preferred_at S.at result) (λ e. replaced_of tree.now e.world at)
-        (λ e. ReplacedFits tree.now e.world at) }
+    ensures { Lays S.run calc.old calc.new (preferred_at S.at result)
+        (λ e. replaced_of tree.now e.world at) (λ e. ReplacedFits tree.now e.world at) }
 {
     let width = tentative(calc, tree, at);
     let least = held(calc, tree, at, width);

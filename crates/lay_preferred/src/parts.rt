@@ -25,8 +25,9 @@ fn least_after<S: Steady>(
     piece: &Piece<Preferred<S::Num>>,
 ) -> Held<S::Num>
     ensures { Lays S.run calc.old calc.new (held_at S.at result)
-        (λ e. held_after (size_at S.at piece.now e).widths.least (held_at S.at held e) (item_of piece.now.item))
-        (λ e. AllSmall (after_way (S.at piece.now.width.least e) (held_at S.at held e) (item_of piece.now.item))) }
+        (λ e. held_after (size_at S.at piece.now e).widths.least (held_at S.at held e)
+        (item_of piece.now.item)) (λ e. AllSmall
+        (after_way (S.at piece.now.width.least e) (held_at S.at held e) (item_of piece.now.item))) }
 {
     match piece.item {
         Item::Float(_) => held,
@@ -41,8 +42,9 @@ fn most_after<S: Steady>(
     piece: &Piece<Preferred<S::Num>>,
 ) -> Held<S::Num>
     ensures { Lays S.run calc.old calc.new (held_at S.at result)
-        (λ e. held_after (size_at S.at piece.now e).widths.most (held_at S.at held e) (item_of piece.now.item))
-        (λ e. AllSmall (after_way (S.at piece.now.width.most e) (held_at S.at held e) (item_of piece.now.item))) }
+        (λ e. held_after (size_at S.at piece.now e).widths.most (held_at S.at held e)
+        (item_of piece.now.item)) (λ e. AllSmall
+        (after_way (S.at piece.now.width.most e) (held_at S.at held e) (item_of piece.now.item))) }
 {
     match piece.item {
         Item::Float(_) => held,
@@ -99,7 +101,8 @@ fn least_width<S: Steady>(calc: &mut S, part: &[Piece<Preferred<S::Num>>]) -> S:
 fn with_float<S: Steady>(calc: &mut S, sum: S::Num, piece: &Piece<Preferred<S::Num>>) -> S::Num
     ensures { Lays S.run calc.old calc.new (S.at result)
         (λ e. sum_after (S.at sum e) (size_at S.at piece.now e) (item_of piece.now.item))
-        (λ e. AllSmall (sum_after (S.at sum e) (size_at S.at piece.now e) (item_of piece.now.item) ∷ [])) }
+        (λ e. AllSmall (sum_after (S.at sum e) (size_at S.at piece.now e) (item_of piece.now.item)
+        ∷ [])) }
 {
     match piece.item {
         Item::Float(_) => calc.add(&sum, &piece.width.most),
@@ -140,8 +143,8 @@ fn past_float<S: Steady>(
     piece: &Piece<Preferred<S::Num>>,
 ) -> Option<S::Num>
     ensures { Lays S.run calc.old calc.new (option_at S.at result)
-        (λ e. float_past (option_at S.at best e) (size_at S.at piece.now e).widths.least (item_of piece.now.item))
-        (λ e. AllSmall (S.at piece.now.width.least e ∷ [])) }
+        (λ e. float_past (option_at S.at best e) (size_at S.at piece.now e).widths.least
+        (item_of piece.now.item)) (λ e. AllSmall (S.at piece.now.width.least e ∷ [])) }
 {
     match piece.item {
         Item::Float(_) => {
@@ -175,7 +178,8 @@ pub fn widest_stretch<S: Steady>(
     stretches: Stretches<'_, '_, Preferred<S::Num>>,
 ) -> Option<S::Num>
     ensures { Lays S.run calc.old calc.new (option_at S.at result)
-        (λ e. widest least_of None (parts_at S.at stretches.entry.pieces.now stretches.entry.marks.now e))
+        (λ e. widest least_of None
+        (parts_at S.at stretches.entry.pieces.now stretches.entry.marks.now e))
         (λ e. IsHalf (leasts (sizes_at S.at stretches.entry.pieces.now e))) }
 {
     let mut rest = stretches;

@@ -1,9 +1,8 @@
 //! The used widths and horizontal margins of boxes (CSS 2.1, 10.3, 10.4).
-ghost use Rattle.std.specs.Prelude.{◌≡◌, IsTrue};
+ghost use Rattle.std.specs.Prelude.{◌≡◌};
 ghost use Rattle.viz_base.specs.declared.lengths.Length.TheVariants as of_length;
 ghost use Rattle.viz_base.specs.declared.styles.Style.{Style as StyleOf};
-ghost use Rattle.viz_calc.specs.World.{Reading};
-ghost use Rattle.viz_calc.specs.State.{AllSmall};
+ghost use Rattle.viz_calc.specs.State.{AllSmall, WhereOpen};
 ghost use Rattle.viz_calc.specs.Run.{Goes, Blames, Lays};
 ghost use Rattle.layout_semantics.specs.Lengths.{own};
 ghost use Rattle.layout_semantics.specs.Lengths.{margins as margins_at};
@@ -37,8 +36,9 @@ fn fixed_block<S: Steady>(
 ) -> Widths<S::Num>
     ensures { Lays S.run calc.old calc.new (widths_at S.at result)
         (λ e. fixed_around (is_automatic (margins_at tree.now b).left)
-        (is_automatic (margins_at tree.now b).right) (around_of (widths_at S.at edges e) (S.at width e))
-        (S.at cb.now e)) (λ e. FixedBlockFits tree.now b (widths_at S.at edges e) (S.at cb.now e) (S.at width e)) }
+        (is_automatic (margins_at tree.now b).right)
+        (around_of (widths_at S.at edges e) (S.at width e)) (S.at cb.now e))
+        (λ e. FixedBlockFits tree.now b (widths_at S.at edges e) (S.at cb.now e) (S.at width e)) }
 {
     let margin = margins(tree, b);
     let terms = around(edges, width);
@@ -96,7 +96,8 @@ fn given_block<S: Steady>(
 /// The terms of a block in normal flow (CSS 2.1, 10.3.3, 10.4).
 pub fn block<S: Steady>(calc: &mut S, tree: &BoxTree, b: u32, cb: &S::Num) -> Widths<S::Num>
     ensures { Lays S.run calc.old calc.new (widths_at S.at result)
-        (λ e. held_terms tree.now e.world b (S.at cb.now e) (block_terms tree.now e.world b (S.at cb.now e)))
+        (λ e. held_terms tree.now e.world b (S.at cb.now e)
+        (block_terms tree.now e.world b (S.at cb.now e)))
         (λ e. BlockFits tree.now e.world b (S.at cb.now e)) }
 {
     let edges = edges(calc, tree, b, cb);
@@ -161,12 +162,12 @@ pub fn shrunk<S: Steady>(
     preferred: &Preferred<S::Num>,
 ) -> Widths<S::Num>
     ensures goes { Goes (S.run calc.old) (S.run calc.new) }
-    ensures value { (e : Reading) → IsTrue ((S.run calc.new).is_open e)
-        → preferred_at S.at preferred.now e ≡ preferred_of tree.now e.world b
-        → widths_at S.at result e ≡ held_terms tree.now e.world b (S.at cb.now e) (shrunk_terms tree.now e.world b
-        (S.at cb.now e)) }
-    ensures cause { Blames (S.run calc.old) (S.run calc.new) ((e : Reading) → IsTrue ((S.run calc.old).is_open e)
-        → ShrunkFits tree.now e.world b (S.at cb.now e) (preferred_at S.at preferred.now e)) }
+    ensures value { WhereOpen (S.run calc.new).is_open
+        (λ e. preferred_at S.at preferred.now e ≡ preferred_of tree.now e.world b
+        → widths_at S.at result e ≡ held_terms tree.now e.world b (S.at cb.now e)
+        (shrunk_terms tree.now e.world b (S.at cb.now e))) }
+    ensures cause { Blames (S.run calc.old) (S.run calc.new) (WhereOpen (S.run calc.old).is_open
+        (λ e. ShrunkFits tree.now e.world b (S.at cb.now e) (preferred_at S.at preferred.now e))) }
 {
     let edges = edges(calc, tree, b, cb);
     let width = shrunk_width(calc, tree, b, cb, preferred, &edges);
@@ -185,8 +186,9 @@ fn replaced_between<S: Steady>(
     ensures { Lays S.run calc.old calc.new (widths_at S.at result)
         (λ e. fixed_around (is_automatic (margins_at tree.now b).left)
         (is_automatic (margins_at tree.now b).right)
-        (around_of (widths_at S.at edges e) (replaced_size tree.now e.world b (S.at cb.now e)).width)
-        (S.at cb.now e)) (λ e. ReplacedBetweenFits tree.now e.world b (S.at cb.now e) (widths_at S.at edges e)) }
+        (around_of (widths_at S.at edges e)
+        (replaced_size tree.now e.world b (S.at cb.now e)).width) (S.at cb.now e))
+        (λ e. ReplacedBetweenFits tree.now e.world b (S.at cb.now e) (widths_at S.at edges e)) }
 {
     let width = replaced::width(calc, tree, b, cb);
     fixed_block(calc, tree, b, cb, edges, width)
@@ -218,7 +220,8 @@ pub fn replaced_shrunk<S: Steady>(
     ensures { Lays S.run calc.old calc.new (widths_at S.at result)
         (λ e. terms_around tree.now e.world b (S.at cb.now e)
         (replaced_size tree.now e.world b (S.at cb.now e)).width)
-        (λ e. EdgesFit tree.now e.world b (S.at cb.now e) × ReplacedFits tree.now e.world b (S.at cb.now e)) }
+        (λ e. EdgesFit tree.now e.world b (S.at cb.now e)
+        × ReplacedFits tree.now e.world b (S.at cb.now e)) }
 {
     let edges = edges(calc, tree, b, cb);
     let width = replaced::width(calc, tree, b, cb);
@@ -235,12 +238,12 @@ pub fn widths<S: Steady>(
     preferred: &Preferred<S::Num>,
 ) -> Widths<S::Num>
     ensures goes { Goes (S.run calc.old) (S.run calc.new) }
-    ensures value { (e : Reading) → IsTrue ((S.run calc.new).is_open e)
-        → AreItsOwn tree.now e.world b (preferred_at S.at preferred.now e)
-        → widths_at S.at result e ≡ widths_of tree.now e.world b (S.at cb.now e) }
-    ensures cause { Blames (S.run calc.old) (S.run calc.new) ((e : Reading) → IsTrue ((S.run calc.old).is_open e)
-        → WidthsFit (in_block tree.now e.world b (S.at cb.now e)) (placing_of tree.now b)
-        (preferred_at S.at preferred.now e)) }
+    ensures value { WhereOpen (S.run calc.new).is_open
+        (λ e. AreItsOwn tree.now e.world b (preferred_at S.at preferred.now e)
+        → widths_at S.at result e ≡ widths_of tree.now e.world b (S.at cb.now e)) }
+    ensures cause { Blames (S.run calc.old) (S.run calc.new) (WhereOpen (S.run calc.old).is_open
+        (λ e. WidthsFit (in_block tree.now e.world b (S.at cb.now e)) (placing_of tree.now b)
+        (preferred_at S.at preferred.now e))) }
 {
     match placed_as(tree, b) {
         Placing::Block => block(calc, tree, b, cb),

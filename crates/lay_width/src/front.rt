@@ -1,7 +1,6 @@
 //! The public calls over any `Calc`, each its engine within a `Latch`.
-ghost use Rattle.std.specs.Prelude.{◌≡◌, IsTrue, IfOk, IfErr};
-ghost use Rattle.viz_calc.specs.World.{Reading};
-ghost use Rattle.viz_calc.specs.State.{Grows, AreOpen, Cause};
+ghost use Rattle.std.specs.Prelude.{◌≡◌, IfOk, IfErr};
+ghost use Rattle.viz_calc.specs.State.{Grows, AreOpen, Cause, WhereOpen};
 ghost use Rattle.layout_semantics.specs.Horizontal.{placing_of};
 ghost use Rattle.layout_semantics.specs.Horizontal.{widths as widths_of};
 ghost use Rattle.lay_width.specs.Readings.{widths_at, preferred_at, AreItsOwn};
@@ -23,14 +22,14 @@ pub fn widths<C: Calc>(
     preferred: &Preferred<C::Num>,
 ) -> Result<Widths<C::Num>, Halt>
     ensures grows { Grows (C.state calc.old) (C.state calc.new) }
-    ensures value { IfOk result (λ r. (e : Reading) → IsTrue ((C.state calc.new).is_open e)
-        → AreItsOwn tree.now e.world b (preferred_at C.at preferred.now e)
-        → widths_at C.at r e ≡ widths_of tree.now e.world b (C.at cb.now e)) }
+    ensures value { IfOk result (λ r. WhereOpen (C.state calc.new).is_open
+        (λ e. AreItsOwn tree.now e.world b (preferred_at C.at preferred.now e)
+        → widths_at C.at r e ≡ widths_of tree.now e.world b (C.at cb.now e))) }
     ensures kept { AreOpen (C.state calc.old).kept (C.state calc.new) }
-    ensures cause { IfErr result (Cause (C.state calc.old) (C.state calc.new) ((e : Reading)
-        → IsTrue ((C.state calc.old).is_open e)
-        → WidthsFit (in_block tree.now e.world b (C.at cb.now e)) (placing_of tree.now b)
-        (preferred_at C.at preferred.now e))) }
+    ensures cause { IfErr result (Cause (C.state calc.old) (C.state calc.new)
+        (WhereOpen (C.state calc.old).is_open
+        (λ e. WidthsFit (in_block tree.now e.world b (C.at cb.now e)) (placing_of tree.now b)
+        (preferred_at C.at preferred.now e)))) }
 {
     let mut latch = Latch::new(calc);
     let widths = engine::widths(&mut latch, tree, b, cb, preferred);

@@ -87,7 +87,8 @@ pub fn least_around<S: Steady>(
     b: u32,
 ) -> S::Num
     ensures { Lays S.run calc.old calc.new (S.at result)
-        (λ e. unwrap_or (height_in tree.now e.world (option_at S.at around.now e) (least_of tree.now b)) (pos 0))
+        (λ e. unwrap_or (height_in tree.now e.world (option_at S.at around.now e)
+        (least_of tree.now b)) (pos 0))
         (λ e. HeightFits tree.now e.world (option_at S.at around.now e) (least_of tree.now b)
         × AllSmall (pos 0 ∷ [])) }
 {
@@ -126,7 +127,8 @@ pub fn definite_height<S: Steady>(
     b: u32,
 ) -> Option<S::Num>
     ensures { Lays S.run calc.old calc.new (option_at S.at result)
-        (λ e. definite_height_to levels tree.now e.world b) (λ e. DefiniteFits_to levels tree.now e.world b) }
+        (λ e. definite_height_to levels tree.now e.world b)
+        (λ e. DefiniteFits_to levels tree.now e.world b) }
 {
     if levels == 0 {
         return None;
@@ -142,8 +144,8 @@ pub fn definite_height<S: Steady>(
 
 /// The height that a box's own property gives, where that is definite.
 pub fn given_height<S: Steady>(calc: &mut S, tree: &BoxTree, b: u32) -> Option<S::Num>
-    ensures { Lays S.run calc.old calc.new (option_at S.at result) (λ e. given_height_of tree.now e.world b)
-        (λ e. GivenFits tree.now e.world b) }
+    ensures { Lays S.run calc.old calc.new (option_at S.at result)
+        (λ e. given_height_of tree.now e.world b) (λ e. GivenFits tree.now e.world b) }
 {
     let around = definite_height(calc, tree, u64::from(b) + 1, b);
     height_around(calc, tree, &around, &own_height(tree, b))

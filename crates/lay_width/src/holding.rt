@@ -35,7 +35,8 @@ pub fn used_unless_auto<S: Steady>(
 
 /// A length, unless it is `auto` or a percentage.
 pub fn used_if_absolute<S: Steady>(calc: &mut S, tree: &BoxTree, length: &Length) -> Option<S::Num>
-    ensures { Lays S.run calc.old calc.new (option_at S.at result) (λ e. if_absolute tree.now e.world length.now)
+    ensures { Lays S.run calc.old calc.new (option_at S.at result)
+        (λ e. if_absolute tree.now e.world length.now)
         (λ e. UsedFits tree.now e.world length.now (pos 0)) }
 {
     match length {
@@ -49,7 +50,8 @@ pub fn used_if_absolute<S: Steady>(calc: &mut S, tree: &BoxTree, length: &Length
 pub fn own_maximum<S: Steady>(calc: &mut S, tree: &BoxTree, b: u32, cb: &S::Num) -> Option<S::Num>
     ensures { Lays S.run calc.old calc.new (option_at S.at result)
         (λ e. maximum_of tree.now e.world b (S.at cb.now e))
-        (λ e. MostFits tree.now e.world (own tree.now b (λ (s : StyleOf). s.max_width) None) (S.at cb.now e)) }
+        (λ e. MostFits tree.now e.world (own tree.now b (λ (s : StyleOf). s.max_width) None)
+        (S.at cb.now e)) }
 {
     match own_most(tree, b) {
         Some(most) => used_unless_auto(calc, tree, &most, cb),
@@ -125,9 +127,9 @@ pub fn again<S: Steady>(
 /// A width after the maximum and the minimum of a box.
 pub fn held<S: Steady>(calc: &mut S, tree: &BoxTree, b: u32, cb: &S::Num, width: S::Num) -> S::Num
     ensures { Lays S.run calc.old calc.new (S.at result)
-        (λ e. unwrap_or
-        (again_of (maximum_of tree.now e.world b (S.at cb.now e)) (own_minimum tree.now e.world b (S.at cb.now e))
-        (S.at width e)) (S.at width e)) (λ e. HoldFits tree.now e.world b (S.at cb.now e)) }
+        (λ e. unwrap_or (again_of (maximum_of tree.now e.world b (S.at cb.now e))
+        (own_minimum tree.now e.world b (S.at cb.now e)) (S.at width e)) (S.at width e))
+        (λ e. HoldFits tree.now e.world b (S.at cb.now e)) }
 {
     match again(calc, tree, b, cb, &width) {
         Some(other) => other,

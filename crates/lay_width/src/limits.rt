@@ -10,14 +10,16 @@ use viz_calc::Steady;
 
 /// The lesser of two numbers.
 pub fn lesser<S: Steady>(calc: &mut S, a: S::Num, b: S::Num) -> S::Num
-    ensures { Lays S.run calc.old calc.new (S.at result) (λ e. int_min (S.at a e) (S.at b e)) (λ e. ⊤) }
+    ensures { Lays S.run calc.old calc.new (S.at result) (λ e. int_min (S.at a e) (S.at b e))
+        (λ e. ⊤) }
 {
     if calc.le(&a, &b) { a } else { b }
 }
 
 /// The greater of two numbers.
 pub fn greater<S: Steady>(calc: &mut S, a: S::Num, b: S::Num) -> S::Num
-    ensures { Lays S.run calc.old calc.new (S.at result) (λ e. int_max (S.at a e) (S.at b e)) (λ e. ⊤) }
+    ensures { Lays S.run calc.old calc.new (S.at result) (λ e. int_max (S.at a e) (S.at b e))
+        (λ e. ⊤) }
 {
     if calc.le(&b, &a) { a } else { b }
 }
@@ -25,7 +27,8 @@ pub fn greater<S: Steady>(calc: &mut S, a: S::Num, b: S::Num) -> S::Num
 /// A length that is above its maximum becomes that.
 pub fn no_more<S: Steady>(calc: &mut S, most: Option<S::Num>, length: S::Num) -> S::Num
     ensures { Lays S.run calc.old calc.new (S.at result)
-        (λ e. option_map_or (int_min (S.at length e)) (option_at S.at most e) (S.at length e)) (λ e. ⊤) }
+        (λ e. option_map_or (int_min (S.at length e)) (option_at S.at most e) (S.at length e))
+        (λ e. ⊤) }
 {
     match most {
         Some(most) => lesser(calc, length, most),

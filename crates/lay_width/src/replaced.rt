@@ -23,7 +23,8 @@ use viz_calc::Steady;
 
 /// One size where the other is given, by the ratio of the intrinsic ones; the intrinsic one where the ratio has a 0.
 pub fn by_ratio<S: Steady>(calc: &mut S, given: &S::Num, of: u32, wanted: u32) -> S::Num
-    ensures { Lays S.run calc.old calc.new (S.at result) (λ e. ratio_of (S.at given.now e) of wanted)
+    ensures { Lays S.run calc.old calc.new (S.at result)
+        (λ e. ratio_of (S.at given.now e) of wanted)
         (λ e. AllSmall (ratio_of (S.at given.now e) of wanted ∷ [])) }
 {
     if of == 0 {
@@ -35,7 +36,8 @@ pub fn by_ratio<S: Steady>(calc: &mut S, given: &S::Num, of: u32, wanted: u32) -
 
 /// The width that follows from a height, or the intrinsic one.
 fn by_height<S: Steady>(calc: &mut S, size: (u32, u32), height: Option<S::Num>) -> S::Num
-    ensures { Lays S.run calc.old calc.new (S.at result) (λ e. tentative_of size None (option_at S.at height e))
+    ensures { Lays S.run calc.old calc.new (S.at result)
+        (λ e. tentative_of size None (option_at S.at height e))
         (λ e. RatioFits size (option_at S.at height e)) }
 {
     match height {
@@ -49,8 +51,8 @@ fn tentative<S: Steady>(calc: &mut S, tree: &BoxTree, b: u32, cb: &S::Num) -> S:
     ensures { Lays S.run calc.old calc.new (S.at result)
         (λ e. tentative_of (intrinsic_at tree.now b) (width_of tree.now e.world b (S.at cb.now e))
         (given_height_of tree.now e.world b))
-        (λ e. TentativeFits tree.now e.world b (own tree.now b (λ (s : StyleOf). s.width) of_length.Auto)
-        (S.at cb.now e)) }
+        (λ e. TentativeFits tree.now e.world b (own tree.now b
+        (λ (s : StyleOf). s.width) of_length.Auto) (S.at cb.now e)) }
 {
     match own_width(tree, b) {
         Length::Auto => {

@@ -65,7 +65,8 @@ pub fn sum<S: Steady>(calc: &mut S, terms: &Widths<S::Num>) -> S::Num
 
 /// The greater of 0 and what `cb` leaves of a sum.
 fn left_over<S: Steady>(calc: &mut S, cb: &S::Num, sum: &S::Num) -> S::Num
-    ensures { Lays S.run calc.old calc.new (S.at result) (λ e. int_max (pos 0) (S.at cb.now e -ℤ S.at sum.now e))
+    ensures { Lays S.run calc.old calc.new (S.at result)
+        (λ e. int_max (pos 0) (S.at cb.now e -ℤ S.at sum.now e))
         (λ e. AllSmall (pos 0 ∷ (S.at cb.now e -ℤ S.at sum.now e) ∷ [])) }
 {
     let none = zero(calc);
@@ -97,7 +98,8 @@ fn half<S: Steady>(calc: &mut S, whole: &S::Num) -> S::Num
 fn share<S: Steady>(calc: &mut S, right_auto: bool, cb: &S::Num, sum: &S::Num) -> S::Num
     ensures { Lays S.run calc.old calc.new (S.at result)
         (λ e. left_margin_of true right_auto true (S.at cb.now e -ℤ S.at sum.now e) (pos 0))
-        (λ e. AllSmall ((S.at cb.now e -ℤ S.at sum.now e) ∷ floor_of (S.at cb.now e -ℤ S.at sum.now e) 2 ∷ [])) }
+        (λ e. AllSmall ((S.at cb.now e -ℤ S.at sum.now e)
+        ∷ floor_of (S.at cb.now e -ℤ S.at sum.now e) 2 ∷ [])) }
 {
     let rest = calc.sub(cb, sum);
     if right_auto { half(calc, &rest) } else { rest }
@@ -138,7 +140,8 @@ fn with_left<S: Steady>(
 ) -> Widths<S::Num>
     ensures { Lays S.run calc.old calc.new (widths_at S.at result)
         (λ e. with_left (widths_at S.at terms e) (S.at cb.now e) (S.at sum.now e) (S.at left e))
-        (λ e. AllSmall (right_way (widths_at S.at terms e) (S.at cb.now e) (S.at sum.now e) (S.at left e))) }
+        (λ e. AllSmall (right_way (widths_at S.at terms e) (S.at cb.now e) (S.at sum.now e)
+        (S.at left e))) }
 {
     let inside = calc.sub(sum, &terms.margin_left);
     let inside = calc.sub(&inside, &terms.margin_right);

@@ -13,18 +13,21 @@ ghost use Rattle.layout_semantics.specs.Flow.{Cleared, Progress, below, block_he
 /// its minimum; so high is it from its top to its bottom border edge, with its borders and paddings (CSS 2.1, 10.6.3,
 /// 10.7).
 pub fn an_empty_block_has_no_height()
-    ensures { (tree : Tree) (w : World) (inside : ℕ → Band ℤ → ℤ → Progress → Progress) (cb : Band ℤ)
-        (p : Progress) (b : ℕ) (cleared : Cleared) (f : Frame) → has_line tree b ≡ false → flow_children tree b ≡ []
+    ensures { (tree : Tree) (w : World) (inside : ℕ → Band ℤ → ℤ → Progress
+        → Progress) (cb : Band ℤ) (p : Progress) (b : ℕ) (cleared : Cleared) (f : Frame)
+        → has_line tree b ≡ false → flow_children tree b ≡ []
         → (laid_block tree w (flow_step tree w inside) cb p b cleared f).bottom
         ≡ f.corner.y +ℤ border_height f.v (content_height tree w b (pos 0)) }
 {}
 
 /// The content of a block with lines ends at the bottom of the last one (CSS 2.1, 10.6.3).
 pub fn a_block_ends_at_its_last_line()
-    ensures { (tree : Tree) (w : World) (inside : ℕ → Band ℤ → ℤ → Progress → Progress) (cb : Band ℤ)
-        (top : ℤ) (p : Progress) (b : ℕ) (joins : Bool) → has_line tree b ≡ true
-        → block_height tree w joins top (flow_step tree w inside b cb top p).standing
-        ≡ (lines_in (inline_context tree w inside b cb) top (unwrap_or p.least top) p.floats).bottom -ℤ top }
+    ensures { (tree : Tree) (w : World) (inside : ℕ → Band ℤ → ℤ → Progress
+        → Progress) (cb : Band ℤ) (top : ℤ) (p : Progress) (b : ℕ) (joins : Bool)
+        → has_line tree b ≡ true → block_height tree w joins top
+        (flow_step tree w inside b cb top p).standing
+        ≡ (lines_in (inline_context tree w inside b cb) top
+        (unwrap_or p.least top) p.floats).bottom -ℤ top }
 {}
 
 /// Behind a child in flow that does not collapse through, the content of a block ends at the child's bottom border
@@ -51,8 +54,9 @@ pub fn floats_and_empty_blocks_add_no_height()
         (cb : Band ℤ) (top : ℤ) (p : Progress) (k : ℕ) (joins : Bool) → is_floated_at tree k ≡ true
         → block_height tree w joins top (child tree w inside cb top p k).standing
         ≡ block_height tree w joins top p.standing }
-    ensures through { (tree : Tree) (w : World) (inside : ℕ → Band ℤ → ℤ → Progress → Progress)
-        (cb : Band ℤ) (top : ℤ) (p : Progress) (k : ℕ) (edge : ℤ) (run : List ℤ) → is_floated_at tree k ≡ false
+    ensures through { (tree : Tree) (w : World) (inside : ℕ → Band ℤ → ℤ → Progress
+        → Progress) (cb : Band ℤ) (top : ℤ) (p : Progress) (k : ℕ) (edge : ℤ) (run : List ℤ)
+        → is_floated_at tree k ≡ false
         → (laid tree w inside cb p k (reached tree w inside cb p k)).through ≡ true
         → (reached tree w inside cb p k).clears ≡ false → p.standing ≡ below edge run false
         → block_height tree w true top (child tree w inside cb top p k).standing ≡ edge -ℤ top }

@@ -18,26 +18,30 @@ pub fn an_inline_block_hangs_by_its_last_line()
         → own tree k (λ (s : Style). s.clips) false ≡ false
         → (alone tree w inside k (across cb)).baseline ≡ Some y
         → (inner_size tree w inside cb k).above ≡ y }
-    ensures edge { (tree : Tree) (w : World) (inside : ℕ → Band ℤ → ℤ → Progress → Progress)
-        (cb : Band ℤ) (k : ℕ) → (is_replaced_at tree k ≡ true) ⊎ ((own tree k (λ (s : Style). s.clips) false ≡ true)
+    ensures edge { (tree : Tree) (w : World) (inside : ℕ → Band ℤ → ℤ → Progress
+        → Progress) (cb : Band ℤ) (k : ℕ)
+        → (is_replaced_at tree k ≡ true)
+        ⊎ ((own tree k (λ (s : Style). s.clips) false ≡ true)
         ⊎ ((alone tree w inside k (across cb)).baseline ≡ None))
         → (inner_size tree w inside cb k).above ≡ (alone tree w inside k (across cb)).size.height }
-    ensures whole { (tree : Tree) (w : World) (inside : ℕ → Band ℤ → ℤ → Progress → Progress)
-        (cb : Band ℤ) (k : ℕ) → ((inner_size tree w inside cb k).above
-        +ℤ (inner_size tree w inside cb k).below) ≡ (alone tree w inside k (across cb)).size.height }
+    ensures whole { (tree : Tree) (w : World) (inside : ℕ → Band ℤ → ℤ → Progress
+        → Progress) (cb : Band ℤ) (k : ℕ)
+        → ((inner_size tree w inside cb k).above +ℤ (inner_size tree w inside cb k).below)
+        ≡ (alone tree w inside k (across cb)).size.height }
 {}
 
 /// The lines of a block container give it the baseline of the last of them, and floats and replaced boxes leave the
 /// baseline that came before: a line in a float is none of the container's (CSS 2.1, 9.5, 10.8.1).
 pub fn lines_in_flow_give_the_baseline()
-    ensures lines { (tree : Tree) (w : World) (inside : ℕ → Band ℤ → ℤ → Progress → Progress)
-        (cb : Band ℤ) (top : ℤ) (p : Progress) (b : ℕ) → has_line tree b ≡ true
+    ensures lines { (tree : Tree) (w : World) (inside : ℕ → Band ℤ → ℤ → Progress
+        → Progress) (cb : Band ℤ) (top : ℤ) (p : Progress) (b : ℕ) → has_line tree b ≡ true
         → (flow_step tree w inside b cb top p).baseline
-        ≡ (lines_in (inline_context tree w inside b cb) top (unwrap_or p.least top) p.floats).baseline }
+        ≡ (lines_in (inline_context tree w inside b cb) top
+        (unwrap_or p.least top) p.floats).baseline }
     ensures float { (tree : Tree) (w : World) (inside : ℕ → Band ℤ → ℤ → Progress → Progress)
         (cb : Band ℤ) (top : ℤ) (p : Progress) (k : ℕ) → is_floated_at tree k ≡ true
         → (child tree w inside cb top p k).baseline ≡ p.baseline }
-    ensures replaced { (tree : Tree) (w : World) (inside : ℕ → Band ℤ → ℤ → Progress → Progress)
-        (cb : Band ℤ) (top : ℤ) (p : Progress) (k : ℕ) → is_floated_at tree k ≡ false → is_replaced_at tree k ≡ true
-        → (child tree w inside cb top p k).baseline ≡ p.baseline }
+    ensures replaced { (tree : Tree) (w : World) (inside : ℕ → Band ℤ → ℤ → Progress
+        → Progress) (cb : Band ℤ) (top : ℤ) (p : Progress) (k : ℕ) → is_floated_at tree k ≡ false
+        → is_replaced_at tree k ≡ true → (child tree w inside cb top p k).baseline ≡ p.baseline }
 {}

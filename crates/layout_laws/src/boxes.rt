@@ -44,9 +44,12 @@ pub fn each_box_is_on_the_page(page: &Page, styles: &List<Style>, at: usize)
 /// The first box is the root's: a block in normal flow, whatever the style says, that starts a block formatting context
 /// (CSS 2.1, 9.4.1 and 9.7).
 pub fn the_first_box_is_the_roots(page: &Page, styles: &List<Style>)
-    ensures node { (b : BoxNode) → slice_get (page_boxes page.now.nodes styles.now) 0 ≡ Some b → b.node ≡ 0 }
-    ensures context { (b : BoxNode) → slice_get (page_boxes page.now.nodes styles.now) 0 ≡ Some b → b.context ≡ true }
-    ensures block { (b : BoxNode) → slice_get (page_boxes page.now.nodes styles.now) 0 ≡ Some b → b.block_level ≡ true }
+    ensures node { (b : BoxNode) → slice_get (page_boxes page.now.nodes styles.now) 0 ≡ Some b
+        → b.node ≡ 0 }
+    ensures context { (b : BoxNode) → slice_get (page_boxes page.now.nodes styles.now) 0 ≡ Some b
+        → b.context ≡ true }
+    ensures block { (b : BoxNode) → slice_get (page_boxes page.now.nodes styles.now) 0 ≡ Some b
+        → b.block_level ≡ true }
 {}
 
 /// Boxes stand in the order of their nodes, but for anonymous block boxes; so no node has two boxes.
@@ -66,14 +69,17 @@ pub fn boxes_stand_in_the_order_of_their_nodes(
 pub fn no_hidden_node_has_a_box(page: &Page, styles: &List<Style>, at: usize)
     ensures own { (b : BoxNode) → slice_get (page_boxes page.now.nodes styles.now) at ≡ Some b
         → is_hidden styles.now b.node ≡ false }
-    ensures above { (b : BoxNode) (above : ℕ) → slice_get (page_boxes page.now.nodes styles.now) at ≡ Some b
+    ensures above { (b : BoxNode) (above : ℕ)
+        → slice_get (page_boxes page.now.nodes styles.now) at ≡ Some b
         → Contains (ancestors page.now.nodes b.node) above → is_hidden styles.now above ≡ false }
 {}
 
 /// The content of a replaced element and of a `br` has no box.
 pub fn no_content_of_a_replaced_element_has_a_box(page: &Page, styles: &List<Style>, at: usize)
-    ensures { (b : BoxNode) (above : ℕ) → slice_get (page_boxes page.now.nodes styles.now) at ≡ Some b
-        → Contains (ancestors page.now.nodes b.node) above → node_passes is_closed page.now.nodes above ≡ false }
+    ensures { (b : BoxNode) (above : ℕ)
+        → slice_get (page_boxes page.now.nodes styles.now) at ≡ Some b
+        → Contains (ancestors page.now.nodes b.node) above
+        → node_passes is_closed page.now.nodes above ≡ false }
 {}
 
 /// An element that is shown has a box: neither it nor what it is in is hidden, and it is in no replaced element and
@@ -105,15 +111,16 @@ pub fn replaced_boxes_alone_have_a_size(page: &Page, styles: &List<Style>, at: u
 
 /// Text boxes, forced line breaks and replaced boxes hold no boxes.
 pub fn leaves_hold_no_box(page: &Page, styles: &List<Style>, at: usize)
-    ensures { (b : BoxNode) → slice_get (page_boxes page.now.nodes styles.now) at ≡ Some b → IsTrue (is_leaf b.kind)
-        → b.kids ≡ [] }
+    ensures { (b : BoxNode) → slice_get (page_boxes page.now.nodes styles.now) at ≡ Some b
+        → IsTrue (is_leaf b.kind) → b.kids ≡ [] }
 {}
 
 /// An anonymous block box holds an inline-level box: floats alone get none (CSS 2.1, 9.2.1.1).
 pub fn an_anonymous_block_holds_an_inline_level_box(page: &Page, styles: &List<Style>, at: usize)
-    ensures { (b : BoxNode) → slice_get (page_boxes page.now.nodes styles.now) at ≡ Some b → is_anon b.kind ≡ true
-        → (k : ℕ) × (c : BoxNode) × Contains b.kids k
-        × (slice_get (page_boxes page.now.nodes styles.now) k ≡ Some c) × (is_inline_level c ≡ true) }
+    ensures { (b : BoxNode) → slice_get (page_boxes page.now.nodes styles.now) at ≡ Some b
+        → is_anon b.kind ≡ true → (k : ℕ) × (c : BoxNode) × Contains b.kids k
+        × (slice_get (page_boxes page.now.nodes styles.now) k ≡ Some c)
+        × (is_inline_level c ≡ true) }
 {}
 
 /// Anonymous block boxes hold whole runs: between two of them in one box stands a block-level box in normal flow

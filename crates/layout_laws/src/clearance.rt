@@ -10,13 +10,13 @@ ghost use Rattle.layout_laws.specs.Clearance.{IsLowestBottom};
 /// (CSS 2.1, 9.5.2).
 pub fn clear_looks_at_the_lowest_bottom()
     ensures { (clear : Clear) (floats : List FloatBox)
-        → MatchOption (lowest_bottom clear floats)
-        ((f : FloatBox) → Contains floats f → is_relevant clear f ≡ false) (IsLowestBottom clear floats) }
+        → MatchOption (lowest_bottom clear floats) ((f : FloatBox) → Contains floats f
+        → is_relevant clear f ≡ false) (IsLowestBottom clear floats) }
 {}
 
 /// A box that is cleared stands below each earlier float that its `clear` names (CSS 2.1, 9.5.2).
 pub fn a_cleared_box_stands_below_the_floats()
     ensures { (g : Ground) (run : List ℤ) (cb : Band ℤ) (b : ℕ) (passed : ℕ → Bool) (d : ℕ) (y : ℤ)
-        → (resolve g run cb b passed).cleared ≡ Some (d, y)
-        → (f : FloatBox) → Contains g.floats f → IsTrue (is_relevant (clear_of g.tree d) f) → f.box.bottom ≤ℤ y }
+        → (resolve g run cb b passed).cleared ≡ Some (d, y) → (f : FloatBox) → Contains g.floats f
+        → IsTrue (is_relevant (clear_of g.tree d) f) → f.box.bottom ≤ℤ y }
 {}

@@ -18,7 +18,8 @@ use viz_base::{BoxTree, World};
 /// The border rectangle of a box is its margin rectangle without the strips of its margins, and so on to the content
 /// rectangle, which is as wide and as high as the content (CSS 2.1, 8.1).
 pub fn rectangles_are_apart_by_the_edges()
-    ensures { (tree : Tree) (b : ℕ) (f : Frame) (height : ℤ) → HasEdges f.x f.v height (placed_box tree b f height) }
+    ensures { (tree : Tree) (b : ℕ) (f : Frame) (height : ℤ)
+        → HasEdges f.x f.v height (placed_box tree b f height) }
 {}
 
 /// Two automatic margins of a block in normal flow are equally wide where there is room for them, but for 1/64 px

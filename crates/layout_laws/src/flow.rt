@@ -15,8 +15,10 @@ use viz_base::{BoxTree, World};
 /// cut at the ends of lines, and forced breaks; the other entries are those of lines and of the pieces of inline
 /// boxes and texts (CSS 2.1, 9.2.1, 9.2.2, 9.4, 9.5).
 pub fn each_whole_box_has_one_entry(tree: &BoxTree, world: World)
-    ensures { map named_by (filter (λ (p : Placed ℤ). is_whole p.kind) (page_rendering tree.now world).boxes)
-        ≡ map (name_of tree.now) (filter (λ k. is_whole (kind_of tree.now k)) (page_order tree.now.boxes)) }
+    ensures { map named_by (filter (λ (p : Placed ℤ). is_whole p.kind)
+        (page_rendering tree.now world).boxes)
+        ≡ map (name_of tree.now) (filter
+        (λ k. is_whole (kind_of tree.now k)) (page_order tree.now.boxes)) }
 {}
 
 /// A page whose boxes are blocks and floats has one entry for each of them, in document order (CSS 2.1, 9.2.1, 9.4.1,
@@ -37,7 +39,8 @@ pub fn blocks_stand_one_below_the_other(tree: &BoxTree, world: World)
         → IsEntryOf tree.now world c lower
         → kids_of tree.now.boxes a ≡ before ++ b ∷ (passed ++ c ∷ after)
         → collapses tree.now world b ≡ false → IsTrue (list_all (collapses tree.now world) passed)
-        → lower.border.top ≡ upper.border.bottom +ℤ collapsed (trailing tree.now world (content_of outer) b
+        → lower.border.top ≡ upper.border.bottom +ℤ collapsed
+        (trailing tree.now world (content_of outer) b
         ++ (flat_map (all_margins tree.now world (content_of outer)) passed
         ++ leading tree.now world (content_of outer) c)) }
 {}
@@ -49,7 +52,8 @@ pub fn a_first_block_stands_below_its_parents_top(tree: &BoxTree, world: World)
     requires { HasPlainBlocks tree.now }
     ensures { (a c : ℕ) (passed after : List ℕ) (outer lower : Placed ℤ)
         → IsEntryOf tree.now world a outer → IsEntryOf tree.now world c lower
-        → kids_of tree.now.boxes a ≡ passed ++ c ∷ after → IsTrue (list_all (collapses tree.now world) passed)
+        → kids_of tree.now.boxes a ≡ passed ++ c ∷ after
+        → IsTrue (list_all (collapses tree.now world) passed)
         → (a ≡ 0) ⊎ (is_open_above tree.now a ≡ false)
         → lower.border.top ≡ outer.content.top +ℤ collapsed
         (flat_map (all_margins tree.now world (content_of outer)) passed
@@ -62,7 +66,7 @@ pub fn a_first_block_shares_its_parents_top(tree: &BoxTree, world: World)
     requires { HasPlainBlocks tree.now }
     ensures { (a c : ℕ) (passed after : List ℕ) (outer lower : Placed ℤ)
         → IsEntryOf tree.now world a outer → IsEntryOf tree.now world c lower
-        → kids_of tree.now.boxes a ≡ passed ++ c ∷ after → IsTrue (list_all (collapses tree.now world) passed)
-        → 0 < a → is_open_above tree.now a ≡ true
-        → lower.border.top ≡ outer.border.top }
+        → kids_of tree.now.boxes a ≡ passed ++ c ∷ after
+        → IsTrue (list_all (collapses tree.now world) passed) → 0 < a
+        → is_open_above tree.now a ≡ true → lower.border.top ≡ outer.border.top }
 {}

@@ -11,6 +11,6 @@ use viz_base::{BoxTree, World};
 pub fn a_font_size_comes_from_the_parents(tree: &BoxTree, world: World, node: usize)
     ensures { (style : Style) → slice_get tree.now.styles node ≡ Some style
         → font_size tree.now world node
-        ≡ computed_size world.s (option_map_or (font_size tree.now world) (parent_in tree.now.parents node)
-        (default_size world.s)) style.size }
+        ≡ computed_size world.s (option_map_or (font_size tree.now world)
+        (parent_in tree.now.parents node) (default_size world.s)) style.size }
 {}

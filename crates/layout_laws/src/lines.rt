@@ -44,7 +44,8 @@ pub fn a_line_stands_as_high_as_its_first_stretch_fits()
 /// the lines are said to have (CSS 2.1, 9.4.2).
 pub fn lines_stand_one_below_the_other()
     ensures { (c : InlineContext) (y least : ℤ) (floats : List FloatBox)
-        → IsStack y (line_rectangles (lines_in c y least floats).entries) (lines_in c y least floats).bottom }
+        → IsStack y (line_rectangles (lines_in c y least floats).entries)
+        (lines_in c y least floats).bottom }
 {}
 
 /// Each of them is no higher than the tallest line.

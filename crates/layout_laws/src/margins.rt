@@ -5,8 +5,8 @@ ghost use Rattle.layout_laws.specs.Margins.{IsGreatestPositive, IsLeastNegative}
 /// Adjoining margins collapse to the greatest positive one less the absolute value of the least negative one (CSS
 /// 2.1, 8.3.1).
 pub fn margins_collapse_to_the_greatest_and_the_least()
-    ensures { (margins : List ℤ) (most least : ℤ) → IsGreatestPositive margins most → IsLeastNegative margins least
-        → collapsed margins ≡ most +ℤ least }
+    ensures { (margins : List ℤ) (most least : ℤ) → IsGreatestPositive margins most
+        → IsLeastNegative margins least → collapsed margins ≡ most +ℤ least }
 {}
 
 /// There are such margins, whichever adjoin.

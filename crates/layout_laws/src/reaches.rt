@@ -17,7 +17,9 @@ pub fn a_box_reaches_as_far_as_the_box_around_it(tree: &BoxTree)
 /// box.
 pub fn pages_within_reach_are_bounded(tree: &BoxTree, at: usize)
     requires { beyond_reach tree.now.styles tree.now.parents tree.now.fonts tree.now.boxes ≡ None }
-    ensures total { total_extent tree.now.styles tree.now.parents tree.now.fonts tree.now.boxes ≤ 2 ^ 40 }
-    ensures each { (r : ℕ) → slice_get (reaches tree.now.styles tree.now.parents tree.now.fonts tree.now.boxes) at
-        ≡ Some r → r ≤ 2 ^ 40 }
+    ensures total { total_extent tree.now.styles tree.now.parents tree.now.fonts tree.now.boxes
+        ≤ 2 ^ 40 }
+    ensures each { (r : ℕ) → slice_get
+        (reaches tree.now.styles tree.now.parents tree.now.fonts tree.now.boxes) at ≡ Some r
+        → r ≤ 2 ^ 40 }
 {}

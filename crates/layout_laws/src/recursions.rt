@@ -82,7 +82,8 @@ pub fn a_band_is_as_wide_as_the_containing_block(
 /// (CSS 2.1, 10.1, 10.3.3).
 pub fn a_blocks_band_needs_no_height(tree: &BoxTree, world: World, at: usize)
     requires block { placing_of tree.now at ≡ block_flow }
-    ensures band { (cb : Band ℤ) → block_band tree.now world cb at ≡ content_band tree.now world cb at }
+    ensures band { (cb : Band ℤ) → block_band tree.now world cb at
+        ≡ content_band tree.now world cb at }
     ensures height { (h : ℕ) (cb : Band ℤ) → content_band tree.now (record world { h = h }) cb at
         ≡ content_band tree.now world cb at }
 {}
@@ -99,8 +100,8 @@ pub fn a_lead_comes_from_inside(tree: &BoxTree, world: World, at: usize)
 pub fn a_lead_goes_on_through_what_is_not_cleared(tree: &BoxTree, at: usize)
     requires within { at < length tree.now.boxes }
     ensures { (g : Ground) (run : List ℤ) (cb : Band ℤ) (passed : ℕ → Bool) → g.tree ≡ tree.now
-        → resolve g run cb at passed
-        ≡ resolve_step g run (λ d. resolve g run cb at (is_up_to d)) (lead g.tree g.world passed cb at) }
+        → resolve g run cb at passed ≡ resolve_step g run
+        (λ d. resolve g run cb at (is_up_to d)) (lead g.tree g.world passed cb at) }
 {}
 
 /// The flow of what is in a box, by that of what is in later boxes: more levels would change nothing (CSS 2.1, 9.4).

@@ -10,7 +10,8 @@ ghost use Rattle.layout_semantics.specs.Lines.{align_of, content_left};
 /// `clear: left` names the left floats, `right` the right ones, `both` each float and `none` no float (CSS 2.1, 9.5.2).
 pub fn clear_names_the_floats_of_its_side()
     ensures left { (f : FloatBox) → (is_relevant of_clear.Left f ≡ true) ↔ (f.side ≡ of_side.Left) }
-    ensures right { (f : FloatBox) → (is_relevant of_clear.Right f ≡ true) ↔ (f.side ≡ of_side.Right) }
+    ensures right { (f : FloatBox) → (is_relevant of_clear.Right f ≡ true)
+        ↔ (f.side ≡ of_side.Right) }
     ensures both { (f : FloatBox) → is_relevant of_clear.Both f ≡ true }
     ensures none { (f : FloatBox) → is_relevant of_clear.Nothing f ≡ false }
 {}
@@ -18,16 +19,17 @@ pub fn clear_names_the_floats_of_its_side()
 /// What a line holds begins at the left end of the line's room, or ends at its right end, or stands in the middle but
 /// for 1/64 px, as `text-align` says (CSS 2.1, 16.2).
 pub fn text_is_aligned_to_its_side()
-    ensures left { (c : InlineContext) (room : Band ℤ) (held : ℤ) → align_of c.tree c.container ≡ of_align.Left
-        → content_left c room held ≡ room.left }
-    ensures right { (c : InlineContext) (room : Band ℤ) (held : ℤ) → align_of c.tree c.container ≡ of_align.Right
-        → (room.left +ℤ held) ≤ℤ room.right → content_left c room held +ℤ held ≡ room.right }
+    ensures left { (c : InlineContext) (room : Band ℤ) (held : ℤ)
+        → align_of c.tree c.container ≡ of_align.Left → content_left c room held ≡ room.left }
+    ensures right { (c : InlineContext) (room : Band ℤ) (held : ℤ)
+        → align_of c.tree c.container ≡ of_align.Right → (room.left +ℤ held) ≤ℤ room.right
+        → content_left c room held +ℤ held ≡ room.right }
     ensures centre_no_less { (c : InlineContext) (room : Band ℤ) (held : ℤ)
-        → align_of c.tree c.container ≡ of_align.Center
-        → (room.left +ℤ held) ≤ℤ room.right
-        → (content_left c room held -ℤ room.left) ≤ℤ (room.right -ℤ (content_left c room held +ℤ held)) }
+        → align_of c.tree c.container ≡ of_align.Center → (room.left +ℤ held) ≤ℤ room.right
+        → (content_left c room held -ℤ room.left) ≤ℤ
+        (room.right -ℤ (content_left c room held +ℤ held)) }
     ensures centre_no_more { (c : InlineContext) (room : Band ℤ) (held : ℤ)
-        → align_of c.tree c.container ≡ of_align.Center
-        → (room.left +ℤ held) ≤ℤ room.right
-        → (room.right -ℤ (content_left c room held +ℤ held)) ≤ℤ ((content_left c room held -ℤ room.left) +ℤ pos 1) }
+        → align_of c.tree c.container ≡ of_align.Center → (room.left +ℤ held) ≤ℤ room.right
+        → (room.right -ℤ (content_left c room held +ℤ held)) ≤ℤ
+        ((content_left c room held -ℤ room.left) +ℤ pos 1) }
 {}

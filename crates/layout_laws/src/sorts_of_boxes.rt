@@ -23,7 +23,8 @@ pub fn a_float_is_block_level_whatever_its_display(page: &Page, styles: &List<St
 pub fn a_block_starts_a_context_where_it_clips(page: &Page, styles: &List<Style>)
     ensures { (b : BoxNode) (n : Node) (s : Styled) → IsElementBox page.now.nodes styles.now b n s
         → floats s ≡ false → s.display ≡ of_display.Block
-        → IsBlock (tree_styles page.now.nodes styles.now) b (clips_at (tree_styles page.now.nodes styles.now) b.node) }
+        → IsBlock (tree_styles page.now.nodes styles.now) b
+        (clips_at (tree_styles page.now.nodes styles.now) b.node) }
 {}
 
 /// An inline-block has an atomic inline-level box, which starts a block formatting context (CSS 2.1, 9.2.2, 9.4.1).
@@ -36,20 +37,24 @@ pub fn an_inline_block_is_atomic(page: &Page, styles: &List<Style>)
 /// An element with `display: inline` has an inline box; where it is replaced, an atomic inline-level one (CSS 2.1,
 /// 9.2.2).
 pub fn an_inline_element_is_atomic_where_it_is_replaced(page: &Page, styles: &List<Style>)
-    ensures inline { (b : BoxNode) (n : Node) (s : Styled) → IsElementBox page.now.nodes styles.now b n s
-        → floats s ≡ false → s.display ≡ of_display.Inline → is_replaced_body n.body ≡ false
+    ensures inline { (b : BoxNode) (n : Node) (s : Styled)
+        → IsElementBox page.now.nodes styles.now b n s → floats s ≡ false
+        → s.display ≡ of_display.Inline → is_replaced_body n.body ≡ false
         → IsInPieces (tree_styles page.now.nodes styles.now) b of_kind.Inline }
-    ensures replaced { (b : BoxNode) (n : Node) (s : Styled) → IsElementBox page.now.nodes styles.now b n s
-        → floats s ≡ false → s.display ≡ of_display.Inline → is_replaced_body n.body ≡ true
+    ensures replaced { (b : BoxNode) (n : Node) (s : Styled)
+        → IsElementBox page.now.nodes styles.now b n s → floats s ≡ false
+        → s.display ≡ of_display.Inline → is_replaced_body n.body ≡ true
         → IsAtomic (tree_styles page.now.nodes styles.now) b false }
 {}
 
 /// A text and a `br` are inline content, whatever their style (CSS 2.1, 9.2.2; of `br` our own reading).
 pub fn a_text_and_a_break_are_inline(page: &Page, styles: &List<Style>)
     ensures text { (b : BoxNode) (n : Node) (s : Styled) → IsOwnBox page.now.nodes styles.now b n s
-        → is_element n.body ≡ false → IsInPieces (tree_styles page.now.nodes styles.now) b of_kind.Chars }
-    ensures forced { (b : BoxNode) (n : Node) (s : Styled) → IsOwnBox page.now.nodes styles.now b n s
-        → 0 < b.node → is_break n.body ≡ true → IsInPieces (tree_styles page.now.nodes styles.now) b of_kind.Break }
+        → is_element n.body ≡ false → IsInPieces
+        (tree_styles page.now.nodes styles.now) b of_kind.Chars }
+    ensures forced { (b : BoxNode) (n : Node) (s : Styled)
+        → IsOwnBox page.now.nodes styles.now b n s → 0 < b.node → is_break n.body ≡ true
+        → IsInPieces (tree_styles page.now.nodes styles.now) b of_kind.Break }
 {}
 
 /// The root has a block in normal flow that starts a block formatting context, and an anonymous block box starts none
@@ -57,8 +62,9 @@ pub fn a_text_and_a_break_are_inline(page: &Page, styles: &List<Style>)
 pub fn the_root_and_anonymous_boxes_are_blocks(page: &Page, styles: &List<Style>)
     ensures root { (b : BoxNode) (n : Node) (s : Styled) → IsOwnBox page.now.nodes styles.now b n s
         → b.node ≡ 0 → IsBlock (tree_styles page.now.nodes styles.now) b true }
-    ensures anonymous { (at : ℕ) (b : BoxNode) → slice_get (page_boxes page.now.nodes styles.now) at ≡ Some b
-        → is_anon b.kind ≡ true → IsBlock (tree_styles page.now.nodes styles.now) b false }
+    ensures anonymous { (at : ℕ) (b : BoxNode)
+        → slice_get (page_boxes page.now.nodes styles.now) at ≡ Some b → is_anon b.kind ≡ true
+        → IsBlock (tree_styles page.now.nodes styles.now) b false }
 {}
 
 /// A box is replaced exactly where its element is (CSS 2.1, 3.1).

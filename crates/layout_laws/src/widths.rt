@@ -16,8 +16,10 @@ use viz_base::{BoxTree, World};
 pub fn preferred_widths_of_inline_content(tree: &BoxTree, world: World, at: usize)
     requires within { at < length tree.now.boxes }
     requires inline { inside_of tree.now at ≡ inline_content }
-    ensures least { IsGreatestOf (unbreakable_widths tree.now world at) (preferred tree.now world at).least }
-    ensures most { IsGreatestOf (piece_widths tree.now world at) (preferred tree.now world at).most }
+    ensures least { IsGreatestOf (unbreakable_widths tree.now world at)
+        (preferred tree.now world at).least }
+    ensures most { IsGreatestOf (piece_widths tree.now world at)
+        (preferred tree.now world at).most }
 {}
 
 /// The preferred minimum width of a box that holds blocks is the greatest of its children, and the preferred width
@@ -26,8 +28,10 @@ pub fn preferred_widths_of_inline_content(tree: &BoxTree, world: World, at: usiz
 pub fn preferred_widths_of_blocks(tree: &BoxTree, world: World, at: usize)
     requires within { at < length tree.now.boxes }
     requires blocks { inside_of tree.now at ≡ blocks }
-    ensures least { IsGreatestOf (child_least_widths tree.now world at) (preferred tree.now world at).least }
-    ensures most { IsGreatestOf (child_most_widths tree.now world at) (preferred tree.now world at).most }
+    ensures least { IsGreatestOf (child_least_widths tree.now world at)
+        (preferred tree.now world at).least }
+    ensures most { IsGreatestOf (child_most_widths tree.now world at)
+        (preferred tree.now world at).most }
 {}
 
 /// Both of a replaced box are its width where percentages count as `auto` and none (CSS 2.1, 10.3.2, 10.3.5; our own
@@ -60,9 +64,11 @@ pub fn used_widths_are_held(tree: &BoxTree, world: World, at: usize)
 /// The width that a float or an inline-block shrinks to is what is left of the containing block where that lies
 /// between its preferred widths (CSS 2.1, 10.3.5).
 pub fn a_width_shrinks_to_fit()
-    ensures least { (p : Preferred ℤ) (room : ℤ) → p.least ≤ℤ p.most → p.least ≤ℤ shrink_to_fit p room }
+    ensures least { (p : Preferred ℤ) (room : ℤ) → p.least ≤ℤ p.most
+        → p.least ≤ℤ shrink_to_fit p room }
     ensures most { (p : Preferred ℤ) (room : ℤ) → shrink_to_fit p room ≤ℤ p.most }
-    ensures between { (p : Preferred ℤ) (room : ℤ) → p.least ≤ℤ room → room ≤ℤ p.most → shrink_to_fit p room ≡ room }
+    ensures between { (p : Preferred ℤ) (room : ℤ) → p.least ≤ℤ room → room ≤ℤ p.most
+        → shrink_to_fit p room ≡ room }
 {}
 
 /// Among the children of a box, the widths that its preferred width is the greatest of are those of the children in

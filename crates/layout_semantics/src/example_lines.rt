@@ -5,10 +5,11 @@ ghost use Rattle.layout_semantics.specs.ExampleLines.{aligned_words, subscript, 
 
 /// `text-align` puts what a line holds at its right end, or in its middle (CSS 2.1, 16.2).
 pub fn aligned_words()
-    ensures { (ok : TreeKeeps aligned_words) → border_boxes aligned_words ok
+    ensures { (ok : TreeKeeps aligned_words)
+        → border_boxes aligned_words ok
         ≡ edges 0 0 20480 2456 ∷ edges 0 0 20480 2456 ∷ edges 0 0 20480 1228 ∷ edges 0 0 20480 1228
-        ∷ edges 18432 102 20480 1125 ∷ edges 0 1228 20480 2456 ∷ edges 0 1228 20480 2456 ∷ edges 9216 1330 11264 2353
-        ∷ [] }
+        ∷ edges 18432 102 20480 1125 ∷ edges 0 1228 20480 2456 ∷ edges 0 1228 20480 2456
+        ∷ edges 9216 1330 11264 2353 ∷ [] }
 {}
 
 /// A `sub` is lowered, which makes its line deeper (CSS 2.1, 10.8.1).
@@ -27,6 +28,7 @@ pub fn words_that_stay()
 
 /// Each letter is as wide as its font says (CSS 2.1, 15): 8px and 16px.
 pub fn wide_letter()
-    ensures { (ok : TreeKeeps wide_letter) → border_boxes wide_letter ok
-        ≡ edges 0 0 20480 1228 ∷ edges 0 0 20480 1228 ∷ edges 0 0 20480 1228 ∷ edges 0 102 1536 1125 ∷ [] }
+    ensures { (ok : TreeKeeps wide_letter)
+        → border_boxes wide_letter ok ≡ edges 0 0 20480 1228 ∷ edges 0 0 20480 1228
+        ∷ edges 0 0 20480 1228 ∷ edges 0 102 1536 1125 ∷ [] }
 {}

@@ -6,14 +6,16 @@ ghost use Rattle.layout_semantics.specs.ExampleMargins.{padding_between_margins,
 /// A padding parts the top margin of a block from that of its first child (CSS 2.1, 8.3.1).
 pub fn padding_between_margins()
     ensures { (ok : TreeKeeps padding_between_margins)
-        → border_boxes padding_between_margins ok ≡ edges 0 0 20480 2240 ∷ edges 0 0 20480 2240 ∷ edges 0 0 20480 2240
+        → border_boxes padding_between_margins ok
+        ≡ edges 0 0 20480 2240 ∷ edges 0 0 20480 2240 ∷ edges 0 0 20480 2240
         ∷ edges 0 1600 20480 2240 ∷ [] }
 {}
 
 /// The margins of an empty block with a minimum height do not adjoin one another (CSS 2.1, 8.3.1).
 pub fn minimum_between_margins()
     ensures { (ok : TreeKeeps minimum_between_margins)
-        → border_boxes minimum_between_margins ok ≡ edges 0 0 20480 5120 ∷ edges 0 0 20480 5120 ∷ edges 0 0 20480 640
+        → border_boxes minimum_between_margins ok
+        ≡ edges 0 0 20480 5120 ∷ edges 0 0 20480 5120 ∷ edges 0 0 20480 640
         ∷ edges 0 1280 20480 2560 ∷ edges 0 4480 20480 5120 ∷ [] }
 {}
 

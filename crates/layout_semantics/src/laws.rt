@@ -12,5 +12,6 @@ pub fn each_box_of_the_page_is_placed(tree: &BoxTree, at: usize)
 pub fn no_box_is_placed_twice(tree: &BoxTree, first: usize, second: usize)
     requires differ { first < second }
     requires within { second < length (page_order tree.now.boxes) }
-    ensures { slice_get (page_order tree.now.boxes) first ≢ slice_get (page_order tree.now.boxes) second }
+    ensures { slice_get (page_order tree.now.boxes) first
+        ≢ slice_get (page_order tree.now.boxes) second }
 {}

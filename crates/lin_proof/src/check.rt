@@ -48,7 +48,8 @@ pub fn first_fault_among(
     d: &Derivation,
 ) -> Result<Option<u32>, Mem>
     requires { lines_of d.now < 2 ^ 32 }
-    ensures { IfOk result (λ line. line ≡ first_fault (facts.entry.first.now ++ facts.entry.later.now) vars d.now) }
+    ensures { IfOk result (λ line. line
+        ≡ first_fault (facts.entry.first.now ++ facts.entry.later.now) vars d.now) }
 {
     let mut known = List::new(alloc);
     match check(alloc, facts, vars, d, &mut known, 0) {

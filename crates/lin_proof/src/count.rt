@@ -24,7 +24,8 @@ fn count_end(end: &Ending) -> Option<u32>
 
 #[cycle(count)]
 fn count_cases(branch: &Branch) -> Option<u32>
-    ensures { MatchOption result (2 ^ 32 ≤ lines_under branch.now) (λ count. count ≡ lines_under branch.now) }
+    ensures { MatchOption result (2 ^ 32 ≤ lines_under branch.now)
+        (λ count. count ≡ lines_under branch.now) }
 {
     let first = line_count(&branch.first)?;
     let second = line_count(&branch.second)?;

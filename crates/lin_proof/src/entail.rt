@@ -23,7 +23,8 @@ pub fn entails(
     requires { lines_of d.now < 2 ^ 32 }
     ensures exact { IfOk result (λ yes. IsTrue yes ↔ Entails facts.now vars row.now d.now) }
     ensures coeff { IsByDenial result row.now }
-    ensures sound { IfOk result (λ yes. IsTrue yes → (v : ℕ → ℤ) → Meets v facts.now → pos 0 ≤ℤ value row.now v) }
+    ensures sound { IfOk result (λ yes. IsTrue yes → (v : ℕ → ℤ) → Meets v facts.now
+        → pos 0 ≤ℤ value row.now v) }
 {
     let fault = first_fault_of_entailment(alloc, facts, vars, row, d)?;
     Ok(fault.is_none())
@@ -40,7 +41,8 @@ pub fn first_fault_of_entailment(
     d: &Derivation,
 ) -> Result<Option<u32>, RowFault>
     requires { lines_of d.now < 2 ^ 32 }
-    ensures gives { IfOk result (λ line. line ≡ first_fault (with_denied facts.now row.now) vars d.now) }
+    ensures gives { IfOk result (λ line. line
+        ≡ first_fault (with_denied facts.now row.now) vars d.now) }
     ensures coeff { IsByDenial result row.now }
 {
     let denied = row.negate()?;

@@ -15,7 +15,8 @@ pub struct Facts<'a> {
 impl<'a> Facts<'a> {
     /// The fact of this number.
     pub fn get(self, number: u32) -> Option<&'a Row>
-        ensures { option_copied result ≡ slice_get (self.entry.first.now ++ self.entry.later.now) number }
+        ensures { option_copied result
+            ≡ slice_get (self.entry.first.now ++ self.entry.later.now) number }
     {
         let at = number as usize;
         if at < self.first.len() {

@@ -96,7 +96,8 @@ fn step_row(
     known: &List<Row>,
     step: &Step,
 ) -> Result<Option<Row>, Mem>
-    ensures { IfOk result (λ row. row ≡ step_form (facts.entry.first.now ++ facts.entry.later.now) known.now step.now) }
+    ensures { IfOk result (λ row. row
+        ≡ step_form (facts.entry.first.now ++ facts.entry.later.now) known.now step.now) }
 {
     match step {
         Step::Fact(number) => match facts.get(*number) {
@@ -120,8 +121,8 @@ pub fn run(
     steps: &[Step],
 ) -> Result<u32, Fault>
     requires { line + length steps.now < 2 ^ 32 }
-    ensures gives { let facts = facts.entry.first.now ++ facts.entry.later.now in
-        Gives (λ next. (known.new, next)) wrong_line result (run_steps facts known.old line steps.now) }
+    ensures gives { let facts = facts.entry.first.now ++ facts.entry.later.now in Gives
+        (λ next. (known.new, next)) wrong_line result (run_steps facts known.old line steps.now) }
     ensures lines { IfOk result (λ next. next ≡ line + length steps.now) }
     ensures kept { OnOk result (take (length known.old) known.new ≡ known.old) }
 {

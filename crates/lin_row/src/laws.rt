@@ -10,7 +10,8 @@ pub fn denial_holds_elsewhere()
 
 /// The value of a form plus a multiple of another, whatever the variables are.
 pub fn sum_of_values()
-    ensures { (f : Form) (m : ℤ) (g : Form) (v : ℕ → ℤ) → value (plus f m g) v ≡ value f v +ℤ m *ℤ value g v }
+    ensures { (f : Form) (m : ℤ) (g : Form) (v : ℕ → ℤ)
+        → value (plus f m g) v ≡ value f v +ℤ m *ℤ value g v }
 {}
 
 /// A form whose coefficients a number divides is at least 0 exactly where its cut by that number is.

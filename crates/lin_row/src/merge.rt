@@ -60,7 +60,8 @@ fn split_front<'a>(
 ) -> Option<Front<'a>>
     requires left { IsCanonical left.now }
     requires right { IsCanonical right.now }
-    ensures { MatchOption result (plus_terms left.now times right.now ≡ []) (IsFront left.now times right.now) }
+    ensures { MatchOption result (plus_terms left.now times right.now
+        ≡ []) (IsFront left.now times right.now) }
 {
     match (left.split_first(), right.split_first()) {
         (None, None) => None,

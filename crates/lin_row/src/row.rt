@@ -76,7 +76,8 @@ impl Row {
         coefficient: i128,
     ) -> Result<Self, AllocError>
         requires { coefficient ≢ pos 0 }
-        ensures { IfOk result (λ row. row ≡ record { k = k; terms = (variable, coefficient) ∷ [] }) }
+        ensures { IfOk result (λ row. row
+            ≡ record { k = k; terms = (variable, coefficient) ∷ [] }) }
     {
         let mut terms = Terms::new(alloc);
         terms.push(variable, coefficient)?;

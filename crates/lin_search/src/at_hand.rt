@@ -84,7 +84,8 @@ fn partner(alloc: Global, fact: &Row, facts: &[Row]) -> Result<Option<(u32, Mult
 
 /// The derivation from a fact that is a contradiction.
 fn refuted_by_one(alloc: Global, number: u32) -> Result<Derivation, Mem>
-    ensures { IfOk result (λ d. (facts : Seq Form) (variables : ℕ) → IsAlone facts number → Refutes facts variables d) }
+    ensures { IfOk result (λ d. (facts : Seq Form) (variables : ℕ) → IsAlone facts number
+        → Refutes facts variables d) }
 {
     let mut steps = List::new(alloc);
     steps.push(Step::Fact(number))?;
@@ -96,7 +97,8 @@ fn refuted_by_one(alloc: Global, number: u32) -> Result<Derivation, Mem>
 
 /// The derivation from two facts of which multiples have a contradiction as their sum.
 fn refuted_by_two(alloc: Global, pair: Pair) -> Result<Derivation, Mem>
-    ensures { IfOk result (λ d. (facts : Seq Form) (variables : ℕ) → IsPair facts pair → Refutes facts variables d) }
+    ensures { IfOk result (λ d. (facts : Seq Form) (variables : ℕ) → IsPair facts pair
+        → Refutes facts variables d) }
 {
     let mut steps = List::new(alloc);
     steps.push(Step::Fact(pair.first))?;

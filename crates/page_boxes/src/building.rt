@@ -28,7 +28,8 @@ use viz_base::{BoxNode, BoxTree, Font, List, MOST_BOXES, Mem, Page, Style};
 fn parts_of(alloc: Global, page: &Page, styles: &List<Style>) -> Result<Vec<Part>, Mem>
     requires few { length page.now.nodes < 2 ^ 32 }
     requires styled { length styles.now ≡ length page.now.nodes }
-    ensures { IfOk result (λ parts. all_seen parts.items ≡ collapsed (shown_parts page.now.nodes styles.now)) }
+    ensures { IfOk result (λ parts. all_seen parts.items
+        ≡ collapsed (shown_parts page.now.nodes styles.now)) }
 {
     let shown = shown_parts(alloc, page, styles)?;
     let parts = collapsed(alloc, &shown, page.nodes.len())?;
@@ -38,7 +39,8 @@ fn parts_of(alloc: Global, page: &Page, styles: &List<Style>) -> Result<Vec<Part
 /// Refuses boxes for a block in an inline box, or a character that is written from right to left.
 fn judge(alloc: Global, page: &Page, styles: &List<Style>, parts: &[Part]) -> Result<(), BoxFault>
     requires { all_seen parts.now ≡ collapsed (shown_parts page.now.nodes styles.now) }
-    ensures { IsJudged (blocks_in_inlines (all_seen parts.now)) (right_to_left_letters (all_seen parts.now)) result }
+    ensures { IsJudged (blocks_in_inlines (all_seen parts.now))
+        (right_to_left_letters (all_seen parts.now)) result }
 {
     if let Some(node) = block_in_inline(alloc, parts, page.nodes.len())? {
         return Err(BoxFault::BlockInInline(node));

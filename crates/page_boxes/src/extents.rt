@@ -123,8 +123,8 @@ pub fn ratio(size: Option<(u32, u32)>) -> u64
 fn ratio_of(width: u64, height: u64) -> u64
     requires width { width < 2 ^ 32 }
     requires height { height < 2 ^ 32 }
-    ensures value { result ≡ (if width == 0 || height == 0 then 1 else quotient_up (max width height)
-        (min width height)) }
+    ensures value { result ≡ (if width == 0 || height == 0 then 1 else quotient_up
+        (max width height) (min width height)) }
     ensures bound { result ≤ 2 ^ 33 }
 {
     if width == 0 || height == 0 {

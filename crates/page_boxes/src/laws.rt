@@ -11,6 +11,6 @@ use viz_base::{Font, List, Page, Style};
 pub fn the_boxes_of_a_page_are_a_tree(page: &Page, styles: &List<Style>, fonts: &List<Font>)
     requires styled { AreStylesOf page.now.nodes styles.now fonts.now }
     requires no_block_in_inlines { blocks_in_inlines (page_parts page.now.nodes styles.now) ≡ [] }
-    ensures { IsBoxTree (page_boxes page.now.nodes styles.now) (tree_styles page.now.nodes styles.now) fonts.now
-        (tree_parents page.now.nodes) }
+    ensures { IsBoxTree (page_boxes page.now.nodes styles.now)
+        (tree_styles page.now.nodes styles.now) fonts.now (tree_parents page.now.nodes) }
 {}

@@ -21,7 +21,8 @@ fn is_ahead(behind: bool, level: Level) -> bool
 
 /// For each box whether from it on its run has a box other than a float. A run ends at a block in normal flow.
 fn ahead_of(alloc: Global, parts: &[Part], nodes: usize) -> Result<Vec<bool>, AllocError>
-    ensures { IfOk result (λ ahead. ahead.items ≡ ahead_of (replicate nodes false) (all_seen parts.now)) }
+    ensures { IfOk result (λ ahead. ahead.items
+        ≡ ahead_of (replicate nodes false) (all_seen parts.now)) }
 {
     let mut table = vec![in alloc; false; nodes]?;
     let mut ahead = vec![in alloc; false; parts.len()]?;
@@ -37,7 +38,8 @@ fn ahead_of(alloc: Global, parts: &[Part], nodes: usize) -> Result<Vec<bool>, Al
 
 /// For each node whether a block in normal flow is directly in it.
 fn with_blocks(alloc: Global, parts: &[Part], nodes: usize) -> Result<Vec<bool>, AllocError>
-    ensures { IfOk result (λ table. table.items ≡ with_blocks (replicate nodes false) (all_seen parts.now)) }
+    ensures { IfOk result (λ table. table.items
+        ≡ with_blocks (replicate nodes false) (all_seen parts.now)) }
 {
     let mut table = vec![in alloc; false; nodes]?;
     for part in parts {
@@ -81,8 +83,8 @@ fn leads_by(
     blocks: &[bool],
     ahead: &[bool],
 ) -> Result<Vec<Option<u32>>, AllocError>
-    ensures { IfOk result (λ leads. leads.items ≡ leads_walk (replicate nodes None) blocks.now ahead.now 0
-        (all_seen parts.now)) }
+    ensures { IfOk result (λ leads. leads.items
+        ≡ leads_walk (replicate nodes None) blocks.now ahead.now 0 (all_seen parts.now)) }
 {
     let mut led = vec![in alloc; None; nodes]?;
     let mut leads = Vec::new(alloc);
@@ -98,9 +100,10 @@ fn leads_by(
 
 /// For each box the first node of the anonymous block box around it, if there is one.
 pub fn leads(alloc: Global, parts: &[Part], nodes: usize) -> Result<Vec<Option<u32>>, Mem>
-    ensures { IfOk result (λ leads. leads.items ≡ leads_walk (replicate nodes None) (with_blocks
-        (replicate nodes false) (all_seen parts.now)) (ahead_of (replicate nodes false) (all_seen parts.now)) 0
-        (all_seen parts.now)) }
+    ensures { IfOk result (λ leads. leads.items
+        ≡ leads_walk (replicate nodes None)
+        (with_blocks (replicate nodes false) (all_seen parts.now))
+        (ahead_of (replicate nodes false) (all_seen parts.now)) 0 (all_seen parts.now)) }
 {
     let blocks = with_blocks(alloc, parts, nodes)?;
     let ahead = ahead_of(alloc, parts, nodes)?;

@@ -236,7 +236,8 @@ fn add_part(
     style: &Style,
 ) -> Result<(), AllocError>
     ensures { OnOk result (all_seen parts.new.items
-        ≡ all_seen parts.old.items ++ one_if (is_shown_in around style.now) (part_in around at node.now style.now)) }
+        ≡ all_seen parts.old.items ++ one_if (is_shown_in around style.now)
+        (part_in around at node.now style.now)) }
 {
     if is_shown(around, style) {
         parts.push(part_in(alloc, around, at, node, style)?)?;
@@ -248,7 +249,8 @@ fn add_part(
 pub fn shown_parts(alloc: Global, page: &Page, styles: &List<Style>) -> Result<Vec<Part>, Mem>
     requires few { length page.now.nodes < 2 ^ 32 }
     requires styled { length styles.now ≡ length page.now.nodes }
-    ensures { IfOk result (λ parts. all_seen parts.items ≡ nodes_walk [] 0 page.now.nodes styles.now) }
+    ensures { IfOk result (λ parts. all_seen parts.items
+        ≡ nodes_walk [] 0 page.now.nodes styles.now) }
 {
     let nodes = page.nodes.as_slice();
     let styles = styles.as_slice();

@@ -125,8 +125,10 @@ fn add_anonymous(
     around: Option<u32>,
 ) -> Result<(), AllocError>
     requires { length boxes.old.items + 1 < 2 ^ 32 }
-    ensures boxes { OnOk result (boxes.new.items ≡ with_all boxes.old.items (bare_begun (seen part.now) lead around)) }
-    ensures count { OnOk result (length boxes.new.items ≡ own_place_at (length boxes.old.items) (seen part.now) lead) }
+    ensures boxes { OnOk result (boxes.new.items
+        ≡ with_all boxes.old.items (bare_begun (seen part.now) lead around)) }
+    ensures count { OnOk result (length boxes.new.items
+        ≡ own_place_at (length boxes.old.items) (seen part.now) lead) }
 {
     if begins(part, lead) {
         add_box(boxes, anonymous_box(alloc, part, around))?;
@@ -153,10 +155,12 @@ fn add_part(
     lead: Option<u32>,
 ) -> Result<(), AllocError>
     requires { length boxes.old.items + 1 < 2 ^ 32 }
-    ensures boxes { OnOk result (boxes.new.items ≡ with_all boxes.old.items (bare_boxes places.old.items
-        (length boxes.old.items) (seen part.now) lead)) }
-    ensures places { OnOk result (places.new.items ≡ slice_set places.old.items part.now.node (own_place_at
-        (length boxes.old.items) (seen part.now) lead)) }
+    ensures boxes { OnOk result (boxes.new.items
+        ≡ with_all boxes.old.items (bare_boxes places.old.items (length boxes.old.items)
+        (seen part.now) lead)) }
+    ensures places { OnOk result (places.new.items
+        ≡ slice_set places.old.items part.now.node
+        (own_place_at (length boxes.old.items) (seen part.now) lead)) }
 {
     let around = place_around(places, part.parent);
     add_anonymous(alloc, boxes, part, lead, around)?;
@@ -211,8 +215,8 @@ pub fn boxes_of(
     nodes: usize,
 ) -> Result<List<BoxNode>, Mem>
     requires { count_walk leads.now 0 (all_seen parts.now) ≤ MOST_BOXES }
-    ensures { IfOk result (λ boxes. boxes ≡ with_all [] (places_walk (replicate nodes 0) 0 leads.now 0
-        (all_seen parts.now))) }
+    ensures { IfOk result (λ boxes. boxes
+        ≡ with_all [] (places_walk (replicate nodes 0) 0 leads.now 0 (all_seen parts.now))) }
 {
     let mut places = vec![in alloc; 0u32; nodes]?;
     let mut boxes = Vec::new(alloc);

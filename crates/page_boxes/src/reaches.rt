@@ -87,7 +87,8 @@ fn total_of(
     sizes: &[u64],
 ) -> Result<Result<u64, u32>, AllocError>
     requires { AreCapped sizes.now }
-    ensures value { IfOk result (λ sum. sum ≡ sum_walk sizes.now styles.now fonts.now (2 ^ 21) boxes.now) }
+    ensures value { IfOk result (λ sum. sum
+        ≡ sum_walk sizes.now styles.now fonts.now (2 ^ 21) boxes.now) }
     ensures bound { IfOk result (λ sum. IfOk sum (λ total. total ≤ most + 1)) }
 {
     let mut total = VIEWPORT;
@@ -124,7 +125,8 @@ fn first_far(
 ) -> Result<Option<u32>, AllocError>
     requires sizes { AreCapped sizes.now }
     requires total { total ≤ most + 1 }
-    ensures { IfOk result (λ node. node ≡ first_far sizes.now styles.now fonts.now total [] boxes.now) }
+    ensures { IfOk result (λ node. node
+        ≡ first_far sizes.now styles.now fonts.now total [] boxes.now) }
 {
     let mut reaches = Vec::new(alloc);
     for inner in boxes {
@@ -170,8 +172,8 @@ pub fn beyond_reach(
     fonts: &List<Font>,
     parents: &List<Option<u32>>,
 ) -> Result<Option<u32>, Mem>
-    ensures { IfOk result (λ node. node ≡ far_of (sizes_walk [] parents.now 0 styles.now) styles.now fonts.now
-        boxes.now) }
+    ensures { IfOk result (λ node. node
+        ≡ far_of (sizes_walk [] parents.now 0 styles.now) styles.now fonts.now boxes.now) }
 {
     let (boxes, styles, fonts) = (boxes.as_slice(), styles.as_slice(), fonts.as_slice());
     let sizes = font_sizes(alloc, styles, parents.as_slice())?;

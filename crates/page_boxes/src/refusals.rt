@@ -13,7 +13,8 @@ use viz_base::Kind;
 
 /// For each node whether its box is an inline box.
 fn inline_nodes(alloc: Global, parts: &[Part], nodes: usize) -> Result<Vec<bool>, AllocError>
-    ensures { IfOk result (λ table. table.items ≡ inline_nodes (replicate nodes false) (all_seen parts.now)) }
+    ensures { IfOk result (λ table. table.items
+        ≡ inline_nodes (replicate nodes false) (all_seen parts.now)) }
 {
     let mut table = vec![in alloc; false; nodes]?;
     for part in parts {
@@ -35,7 +36,8 @@ pub fn block_in_inline(
     parts: &[Part],
     nodes: usize,
 ) -> Result<Option<u32>, AllocError>
-    ensures { IfOk result (λ node. node ≡ block_in (inline_nodes (replicate nodes false) (all_seen parts.now))
+    ensures { IfOk result (λ node. node
+        ≡ block_in (inline_nodes (replicate nodes false) (all_seen parts.now))
         (all_seen parts.now)) }
 {
     let table = inline_nodes(alloc, parts, nodes)?;

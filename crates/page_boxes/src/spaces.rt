@@ -93,7 +93,8 @@ fn is_bare(part: &Part) -> bool
 
 /// The boxes that stay once white space has collapsed, with the characters that stay.
 pub fn collapsed(alloc: Global, parts: &[Part], nodes: usize) -> Result<Vec<Part>, Mem>
-    ensures { IfOk result (λ kept. all_seen kept.items ≡ spaces_walk (replicate nodes false) (all_seen parts.now)) }
+    ensures { IfOk result (λ kept. all_seen kept.items
+        ≡ spaces_walk (replicate nodes false) (all_seen parts.now)) }
 {
     let mut table = vec![in alloc; false; nodes]?;
     let mut kept = Vec::new(alloc);

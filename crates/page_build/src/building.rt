@@ -27,8 +27,8 @@ pub(crate) struct Laid {
 fn grown_of(alloc: Global, raw: &RawJob, sheets: &[Sheet]) -> Result<Grown, JobRefusal>
     requires { length sheets.now ≡ length raw.now.css + 1 }
     ensures given { MatchResult result
-        (λ g. HasGrowth raw.now.page.nodes (texts_of (raw_of raw.now)) sheets.now (Ok (growth_of g)))
-        (λ refusal. refusal ≢ JobRefusal.Mem
+        (λ g. HasGrowth raw.now.page.nodes (texts_of (raw_of raw.now)) sheets.now
+        (Ok (growth_of g))) (λ refusal. refusal ≢ JobRefusal.Mem
         → IsRefusedPage raw.now.page.nodes (texts_of (raw_of raw.now)) sheets.now refusal) }
     ensures lists { IfOk result (λ g. AreWinners g.page.nodes g.cascaded.winners) }
 {

@@ -35,7 +35,8 @@ pub(crate) fn grown_under(
     requires { length texts.now ≡ length sheets.now }
     ensures given { MatchResult result
         (λ g. HasGrowth page.now.nodes texts.now sheets.now (Ok (growth_of g)))
-        (λ refusal. refusal ≢ JobRefusal.Mem → IsRefusedPage page.now.nodes texts.now sheets.now refusal) }
+        (λ refusal. refusal ≢ JobRefusal.Mem
+        → IsRefusedPage page.now.nodes texts.now sheets.now refusal) }
     ensures lists { IfOk result (λ g. AreWinners g.page.nodes g.cascaded.winners) }
 {
     let winning = all_winners(alloc, page, texts, sheets)?;

@@ -18,7 +18,8 @@ pub(crate) fn written(alloc: Global, text: &str, page: &Page) -> Result<Formula,
     requires { length text.now ≤ MOST_FORMULA }
     ensures given { MatchResult result (IsFormulaText page.now.nodes text.now)
         (λ refusal. refusal ≢ JobRefusal.Mem
-        → (fault : FormulaFault) × IsFault page.now.nodes text.now fault × (refusal ≡ of_formula fault)) }
+        → (fault : FormulaFault) × IsFault page.now.nodes text.now fault
+        × (refusal ≡ of_formula fault)) }
     ensures bound { IfOk result (λ formula. is_bound_in formula 0 ≡ true) }
     ensures small { IfOk result (λ formula. has_small_terms formula ≡ true) }
 {
@@ -35,7 +36,8 @@ pub(crate) fn formula_of(
     requires { length text.now ≤ MOST_FORMULA }
     ensures given { MatchResult result (HasAssertion page.now.nodes text.now from.now)
         (λ refusal. refusal ≢ JobRefusal.Mem
-        → (fault : FormulaFault) × IsFault page.now.nodes text.now fault × (refusal ≡ of_formula fault)) }
+        → (fault : FormulaFault) × IsFault page.now.nodes text.now fault
+        × (refusal ≡ of_formula fault)) }
     ensures bound { IfOk result (λ formula. is_bound_in formula 0 ≡ true) }
     ensures small { IfOk result (λ formula. has_small_terms formula ≡ true) }
 {

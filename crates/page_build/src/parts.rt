@@ -35,10 +35,11 @@ fn laid_part(alloc: Global, file: &JobFile, signs: &List<bool>) -> Result<Laid, 
 /// Refuses a file with a part that gets no boxes.
 fn lay_parts(alloc: Global, file: &JobFile, parts: &[List<bool>]) -> Result<(), JobRefusal>
     requires { IsAsked file.now }
-    ensures { MatchResult result
-        (λ _. HaveTrees (raw_of file.now.raw) file.now.sheets.items file.now.features parts.now)
-        (λ refusal. refusal ≢ JobRefusal.Mem → IsFirstPartRefused (raw_of file.now.raw) file.now.sheets.items
-        file.now.features parts.now refusal) }
+    ensures { MatchResult result (λ _. HaveTrees
+        (raw_of file.now.raw) file.now.sheets.items file.now.features parts.now)
+        (λ refusal. refusal ≢ JobRefusal.Mem
+        → IsFirstPartRefused
+        (raw_of file.now.raw) file.now.sheets.items file.now.features parts.now refusal) }
 {
     for signs in parts {
         laid_part(alloc, file, signs)?;
@@ -56,8 +57,8 @@ fn guarded(
 ) -> Result<Formula, Mem>
     requires bound { is_bound_in formula.now 0 ≡ true }
     requires small { has_small_terms formula.now ≡ true }
-    ensures given { IfOk result
-        (λ all. all ≡ guarded features.now signs.now (renumbered (number_in from.now) formula.now)) }
+    ensures given { IfOk result (λ all. all
+        ≡ guarded features.now signs.now (renumbered (number_in from.now) formula.now)) }
     ensures bound { IfOk result (λ all. is_bound_in all 0 ≡ true) }
     ensures small { IfOk result (λ all. has_small_terms all ≡ true) }
 {
@@ -100,8 +101,9 @@ fn all_parts(
     requires small { has_small_terms formula.now ≡ true }
     ensures given { MatchResult result
         (ArePartsOf (raw_of file.now.raw) file.now.sheets.items file.now.features parts.now)
-        (λ refusal. refusal ≢ JobRefusal.Mem → IsFirstPartRefused (raw_of file.now.raw) file.now.sheets.items
-        file.now.features parts.now refusal) }
+        (λ refusal. refusal ≢ JobRefusal.Mem
+        → IsFirstPartRefused
+        (raw_of file.now.raw) file.now.sheets.items file.now.features parts.now refusal) }
     ensures digest { IfOk result (AllByRecursion (λ (job : Job). job.digest ≡ file.now.digest)) }
 {
     let mut jobs = List::new(alloc);
@@ -137,7 +139,8 @@ fn parts_of(
 ) -> Result<List<List<bool>>, JobRefusal>
     ensures { MatchResult result (λ all. few_parts_of features.now range.now ≡ Ok all)
         (λ refusal. refusal ≢ JobRefusal.Mem
-        → (count : ℕ) × (few_parts_of features.now range.now ≡ Err count) × (refusal ≡ JobRefusal.TooManyParts count)) }
+        → (count : ℕ) × (few_parts_of features.now range.now ≡ Err count)
+        × (refusal ≡ JobRefusal.TooManyParts count)) }
 {
     Ok(parts(alloc, features, range)?)
 }

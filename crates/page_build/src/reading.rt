@@ -57,7 +57,8 @@ pub(crate) fn read_file_with(
     assertion: &str,
 ) -> Result<JobFile, JobRefusal>
     ensures { MatchResult result (IsFileOf (raw_job_with assertion.now bytes.now) bytes.now)
-        (λ refusal. refusal ≢ JobRefusal.Mem → IsUnread (raw_job_with assertion.now bytes.now) refusal) }
+        (λ refusal. refusal ≢ JobRefusal.Mem
+        → IsUnread (raw_job_with assertion.now bytes.now) refusal) }
 {
     let raw = read_job_with(alloc, bytes, assertion)?;
     file_of(alloc, bytes, raw)

@@ -10,7 +10,8 @@ use viz_base::{Boxed, Formula, List, Mem, Set, Sign, Term};
 /// Makes room for the number of a node.
 fn make_room(numbers: &mut Vec<Option<u32>>, node: u32) -> Result<(), Mem>
     ensures room { OnOk result (node < length numbers.new.items) }
-    ensures same { OnOk result ((n : ℕ) → number_at numbers.new.items n ≡ number_at numbers.old.items n) }
+    ensures same { OnOk result ((n : ℕ)
+        → number_at numbers.new.items n ≡ number_at numbers.old.items n) }
 {
     while numbers.len() <= node as usize {
         numbers.push(None)?;
@@ -21,7 +22,8 @@ fn make_room(numbers: &mut Vec<Option<u32>>, node: u32) -> Result<(), Mem>
 /// Notes the number of a node, unless it has one; none of a generated one.
 fn note(numbers: &mut Vec<Option<u32>>, node: Option<u32>, number: u32) -> Result<(), Mem>
     ensures { OnOk result ((n : ℕ) → number_at numbers.new.items n
-        ≡ option_or (number_at numbers.old.items n) (if is_number n node then Some number else None)) }
+        ≡ option_or (number_at numbers.old.items n)
+        (if is_number n node then Some number else None)) }
 {
     if let Some(node) = node {
         make_room(numbers, node)?;

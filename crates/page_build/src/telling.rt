@@ -20,8 +20,8 @@ fn shown_value(
     source: Source,
 ) -> Result<Text, JobRefusal>
     requires { (value : Seq ℕ) × IsValueAt page.now.nodes texts.now source value }
-    ensures { MatchResult result
-        (λ text. (value : Seq ℕ) × IsValueAt page.now.nodes texts.now source value × (text ≡ shown value))
+    ensures { MatchResult result (λ text. (value : Seq ℕ)
+        × IsValueAt page.now.nodes texts.now source value × (text ≡ shown value))
         (λ refusal. refusal ≡ JobRefusal.Mem) }
 {
     match value_text(page, texts, source) {
@@ -34,7 +34,8 @@ fn shown_value(
 pub(crate) fn told(alloc: Global, page: &Page, texts: &[Text], fault: CascadeFault) -> JobRefusal
     requires { IfSome (refusal_of fault) (IsPlaced page.now.nodes texts.now) }
     ensures given { result ≢ JobRefusal.Mem
-        → (why : Fault) × (refusal_of fault ≡ Some why) × IsTold page.now.nodes texts.now why result }
+        → (why : Fault) × (refusal_of fault ≡ Some why)
+        × IsTold page.now.nodes texts.now why result }
     ensures selectors { (sheet at : ℕ) → fault ≡ CascadeFault.Selector sheet at
         → result ≡ JobRefusal.Selector sheet at }
 {

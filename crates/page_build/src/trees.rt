@@ -37,8 +37,8 @@ fn boxes_of(
     fonts: &List<Font>,
 ) -> Result<BoxTree, JobRefusal>
     requires { AreStylesOf page.now.nodes styles.now fonts.now }
-    ensures { MatchResult result (λ tree. page_tree page.now.nodes styles.now fonts.now ≡ Ok (lists_of tree))
-        (λ refusal. refusal ≢ JobRefusal.Mem
+    ensures { MatchResult result (λ tree. page_tree page.now.nodes styles.now fonts.now
+        ≡ Ok (lists_of tree)) (λ refusal. refusal ≢ JobRefusal.Mem
         → (why : BoxRefusal) × (page_tree page.now.nodes styles.now fonts.now ≡ Err why)
         × (refusal ≡ of_boxes why)) }
 {
@@ -53,8 +53,8 @@ pub(crate) fn tree_of(
 ) -> Result<BoxTree, JobRefusal>
     requires fonts { 0 < length fonts.now }
     requires lists { AreWinners grown.now.page.nodes grown.now.cascaded.winners }
-    ensures { MatchResult result (λ tree. HasTree (growth_of grown.now) fonts.now (Ok (lists_of tree)))
-        (λ refusal. refusal ≢ JobRefusal.Mem
+    ensures { MatchResult result (λ tree. HasTree (growth_of grown.now) fonts.now
+        (Ok (lists_of tree))) (λ refusal. refusal ≢ JobRefusal.Mem
         → (why : BoxRefusal) × HasTree (growth_of grown.now) fonts.now (Err why)
         × (refusal ≡ of_boxes why)) }
 {

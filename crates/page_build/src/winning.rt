@@ -30,7 +30,8 @@ fn winners(
     sheets: &[Sheet],
 ) -> Result<Cascaded, JobRefusal>
     requires { length texts.now ≡ length sheets.now }
-    ensures given { MatchResult result (λ c. IsCascade page.now.nodes texts.now sheets.now (Ok c.winners))
+    ensures given { MatchResult result
+        (λ c. IsCascade page.now.nodes texts.now sheets.now (Ok c.winners))
         (λ refusal. refusal ≢ JobRefusal.Mem
         → (why : Fault) × IsCascade page.now.nodes texts.now sheets.now (Err why)
         × IsTold page.now.nodes texts.now why refusal) }
@@ -51,7 +52,8 @@ fn winners_beside(
     which: Pseudo,
 ) -> Result<Cascaded, JobRefusal>
     requires { length texts.now ≡ length sheets.now }
-    ensures given { MatchResult result (λ c. IsPseudoCascade page.now.nodes texts.now sheets.now which (Ok c.winners))
+    ensures given { MatchResult result
+        (λ c. IsPseudoCascade page.now.nodes texts.now sheets.now which (Ok c.winners))
         (λ refusal. refusal ≢ JobRefusal.Mem
         → (why : Fault) × IsPseudoCascade page.now.nodes texts.now sheets.now which (Err why)
         × IsTold page.now.nodes texts.now why refusal) }
@@ -71,8 +73,10 @@ pub(crate) fn all_winners(
     sheets: &[Sheet],
 ) -> Result<Winning, JobRefusal>
     requires { length texts.now ≡ length sheets.now }
-    ensures given { MatchResult result (λ w. AreWinning texts.now sheets.now (written_on page.now.nodes w))
-        (λ refusal. refusal ≢ JobRefusal.Mem → IsRefusedPage page.now.nodes texts.now sheets.now refusal) }
+    ensures given { MatchResult result
+        (λ w. AreWinning texts.now sheets.now (written_on page.now.nodes w))
+        (λ refusal. refusal ≢ JobRefusal.Mem
+        → IsRefusedPage page.now.nodes texts.now sheets.now refusal) }
     ensures lists { IfOk result (AreAllWinners page.now.nodes) }
 {
     let own = winners(alloc, page, texts, sheets)?;

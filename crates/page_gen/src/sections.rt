@@ -58,7 +58,8 @@ fn push_section(out: &mut Vec<u8>, number: u64) -> Result<(), AllocError>
 
 /// A comma, before every section but the first.
 fn push_comma(out: &mut Vec<u8>, before: u32) -> Result<(), AllocError>
-    ensures { OnOk result (out.new.items ≡ out.old.items ++ (if before == 0 then [] else codes ",")) }
+    ensures { OnOk result (out.new.items
+        ≡ out.old.items ++ (if before == 0 then [] else codes ",")) }
 {
     if before == 0 {
         Ok(())

@@ -33,7 +33,8 @@ fn attr_of(alloc: Global, name: &str, value: &Value) -> Result<Option<Attr>, All
 
 /// The attributes that members say.
 fn all_attrs(alloc: Global, members: &Map<String, Value>) -> Result<Option<List<Attr>>, AllocError>
-    ensures { IfOk result (λ o. o ≡ all_of attr_of (members_in (members_view members.now.entries))) }
+    ensures { IfOk result (λ o. o ≡ all_of attr_of
+        (members_in (members_view members.now.entries))) }
 {
     let mut attrs = List::new(alloc);
     for (name, value) in members {

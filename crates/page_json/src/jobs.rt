@@ -88,7 +88,8 @@ fn fonts_of(alloc: Global, value: &Value) -> Result<List<Font>, JobFault>
 
 /// The texts that values are, or the number of the first that is none.
 fn all_sheets(alloc: Global, values: &[Value]) -> Result<List<Text>, JobFault>
-    ensures { Gives (λ css. css) refusal_of result (shaped_at Part.Css (each_of as_str 0 (map view values.now))) }
+    ensures { Gives (λ css. css) refusal_of result
+        (shaped_at Part.Css (each_of as_str 0 (map view values.now))) }
 {
     let mut sheets = List::new(alloc);
     for (place, value) in values.iter().enumerate() {
@@ -113,7 +114,8 @@ fn sheets_of(alloc: Global, value: &Value) -> Result<List<Text>, JobFault>
 
 /// The nodes at places, or the number of the first that is none.
 fn nodes_at(alloc: Global, places: &[Place<'_>]) -> Result<List<Node>, JobFault>
-    ensures { Gives (λ nodes. nodes) refusal_of result (shaped_at Part.Page (each_of node_of 0 (map seen places.now))) }
+    ensures { Gives (λ nodes. nodes) refusal_of result
+        (shaped_at Part.Page (each_of node_of 0 (map seen places.now))) }
 {
     let mut nodes = List::new(alloc);
     for (at, place) in places.iter().enumerate() {
@@ -130,7 +132,8 @@ fn nodes_at(alloc: Global, places: &[Place<'_>]) -> Result<List<Node>, JobFault>
 
 /// The nodes of the page with this root.
 fn page_in(alloc: Global, root: &Value) -> Result<Nodes, JobFault>
-    ensures gives { Gives page_parts refusal_of result (shaped_at Part.Page (page_of (Some (view root.now)))) }
+    ensures gives { Gives page_parts refusal_of result
+        (shaped_at Part.Page (page_of (Some (view root.now)))) }
     ensures document { IfOk result (λ page. IsDocument page.nodes) }
 {
     if root.is_string() {
@@ -194,8 +197,10 @@ fn lists_under<'a>(
     assertion: Option<&'a str>,
 ) -> Result<Parts<'a>, JobFault>
     requires { IsFormOf numbers.form numbers.heights }
-    ensures gives { Gives parts_seen refusal_of result (lists_under (option_copied assertion.entry) numbers.form
-        numbers.widths numbers.sizes numbers.heights (view value.now)) }
+    ensures gives { Gives parts_seen refusal_of result
+        (lists_under
+        (option_copied assertion.entry) numbers.form numbers.widths numbers.sizes numbers.heights
+        (view value.now)) }
     ensures formed { IfOk result (λ parts. IsFormOf parts.form parts.heights) }
     ensures document { IfOk result (λ parts. IsDocument parts.page.nodes) }
     ensures has_font { IfOk result (λ parts. 1 ≤ length parts.fonts) }
@@ -225,7 +230,8 @@ pub(crate) fn parts_under<'a>(
     value: &Value,
     assertion: Option<&'a str>,
 ) -> Result<Parts<'a>, JobFault>
-    ensures gives { Gives parts_seen refusal_of result (parts_under (option_copied assertion.entry) (view value.now)) }
+    ensures gives { Gives parts_seen refusal_of result
+        (parts_under (option_copied assertion.entry) (view value.now)) }
     ensures formed { IfOk result (λ parts. IsFormOf parts.form parts.heights) }
     ensures document { IfOk result (λ parts. IsDocument parts.page.nodes) }
     ensures has_font { IfOk result (λ parts. 1 ≤ length parts.fonts) }

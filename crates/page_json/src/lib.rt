@@ -71,7 +71,8 @@ fn ranged(alloc: Global, parts: Parts<'_>) -> Result<RawJob, JobFault>
 
 /// What a value says as a job file, this being the text of its assertion if there is one.
 fn job_under(alloc: Global, value: &Value, assertion: Option<&str>) -> Result<RawJob, JobFault>
-    ensures gives { Gives raw_of refusal_of result (job_under (option_copied assertion.entry) (view value.now)) }
+    ensures gives { Gives raw_of refusal_of result
+        (job_under (option_copied assertion.entry) (view value.now)) }
     ensures limits { IfOk result (λ job. IsWithinLimits (raw_of job)) }
 {
     let parts = parts_under(alloc, value, assertion)?;

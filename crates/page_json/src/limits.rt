@@ -66,7 +66,8 @@ fn characters(nodes: &[Node]) -> Result<u64, JobFault>
 
 /// The bytes of the style attribute.
 fn style_bytes(attrs: &[Attr]) -> Result<u64, JobFault>
-    ensures { MatchResult result (λ n. n ≡ sum_by style_bytes_in attrs.now) (λ fault. fault ≡ JobFault.Mem) }
+    ensures { MatchResult result (λ n. n ≡ sum_by style_bytes_in attrs.now)
+        (λ fault. fault ≡ JobFault.Mem) }
 {
     let mut total = 0;
     for attr in attrs {
@@ -79,7 +80,8 @@ fn style_bytes(attrs: &[Attr]) -> Result<u64, JobFault>
 
 /// The bytes of all sheets and style attributes.
 fn sheet_bytes(css: &[Text], nodes: &[Node]) -> Result<u64, JobFault>
-    ensures { MatchResult result (λ n. n ≡ sheet_bytes css.now nodes.now) (λ fault. fault ≡ JobFault.Mem) }
+    ensures { MatchResult result (λ n. n ≡ sheet_bytes css.now nodes.now)
+        (λ fault. fault ≡ JobFault.Mem) }
 {
     let mut total = 0;
     for sheet in css {
@@ -95,7 +97,8 @@ fn sheet_bytes(css: &[Text], nodes: &[Node]) -> Result<u64, JobFault>
 
 /// The advances of all fonts.
 fn advances(fonts: &[Font]) -> Result<u64, JobFault>
-    ensures { MatchResult result (λ n. n ≡ advances (map measures_of fonts.now)) (λ fault. fault ≡ JobFault.Mem) }
+    ensures { MatchResult result (λ n. n ≡ advances (map measures_of fonts.now))
+        (λ fault. fault ≡ JobFault.Mem) }
 {
     let mut total = 0;
     for font in fonts {
@@ -118,7 +121,8 @@ fn within(which: Which, most: u64, count: u64) -> Result<u64, JobFault>
 
 /// Refuses the first count of sheets, fonts and the formula that is beyond its limit.
 fn lists_limited(parts: &Parts<'_>) -> Result<u64, JobFault>
-    ensures gives { Gives (λ _. parts_seen parts.now) refusal_of result (lists_limited (parts_seen parts.now)) }
+    ensures gives { Gives (λ _. parts_seen parts.now) refusal_of result
+        (lists_limited (parts_seen parts.now)) }
     ensures short_formula { OnOk result (length parts.now.formula.now ≤ MOST_FORMULA) }
 {
     let bytes = sheet_bytes(parts.css.as_slice(), parts.page.nodes.as_slice())?;
@@ -134,7 +138,8 @@ fn lists_limited(parts: &Parts<'_>) -> Result<u64, JobFault>
 
 /// Refuses the first count that is beyond its limit.
 pub(crate) fn limited(parts: &Parts<'_>) -> Result<u64, JobFault>
-    ensures gives { Gives (λ _. parts_seen parts.now) refusal_of result (limited (parts_seen parts.now)) }
+    ensures gives { Gives (λ _. parts_seen parts.now) refusal_of result
+        (limited (parts_seen parts.now)) }
     ensures few_characters { OnOk result (characters parts.now.page.nodes ≤ MOST_CHARACTERS) }
     ensures short_formula { OnOk result (length parts.now.formula.now ≤ MOST_FORMULA) }
 {

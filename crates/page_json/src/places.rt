@@ -66,7 +66,8 @@ fn add<'a>(
 
 /// The nodes of a page with this root, in document order.
 pub(crate) fn places_of(alloc: Global, root: &Value) -> Result<Vec<Place<'_>>, JobFault>
-    ensures { MatchResult result (λ v. map seen v.items ≡ places_of (view root.now)) (λ fault. fault ≡ JobFault.Mem) }
+    ensures { MatchResult result (λ v. map seen v.items ≡ places_of (view root.now))
+        (λ fault. fault ≡ JobFault.Mem) }
 {
     let mut places = Vec::new(alloc);
     add(root, None, 1, &mut places)?;

@@ -7,6 +7,7 @@ ghost use Rattle.page_limits.specs.Bounds.{Bounds, IsBandIn, IsExtentIn, IsFloat
 /// bounds and its own size together, wherever it is placed (CSS 2.1, 9.5.1).
 pub fn a_float_stays_within_reach()
     ensures { (b own : Bounds) (f : Floating) (floats : List FloatBox) (least : Option ℤ) (y : ℤ)
-        → AllByRecursion (IsFloatIn b) floats → AllByRecursion (IsLevelIn b) (levels_of least y) → IsBandIn b f.cb
-        → IsExtentIn own f.size → AllByRecursion (IsFloatIn (grown b own)) (with_float f floats least y) }
+        → AllByRecursion (IsFloatIn b) floats → AllByRecursion (IsLevelIn b) (levels_of least y)
+        → IsBandIn b f.cb → IsExtentIn own f.size
+        → AllByRecursion (IsFloatIn (grown b own)) (with_float f floats least y) }
 {}

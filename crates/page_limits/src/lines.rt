@@ -11,9 +11,10 @@ ghost use Rattle.page_limits.specs.Inline.{AreLinesIn, IsContentSmall, charge};
 /// item can make its line go on: twenty times the greatest length of a box, and for floats and atomic boxes what these
 /// have in coordinates of their own (CSS 2.1, 9.4.2, 10.8).
 pub fn lines_stay_within_reach()
-    ensures { (c : InlineContext) (own rise : ℕ → Bounds) (s : ℕ) (b : Bounds) (y least : ℤ) (floats : List FloatBox)
-        → IsContentSmall c own rise s → IsBandIn b c.cb → AllByRecursion (IsLevelIn b) (y ∷ least ∷ [])
-        → AllByRecursion (IsFloatIn b) floats
+    ensures { (c : InlineContext) (own rise : ℕ
+        → Bounds) (s : ℕ) (b : Bounds) (y least : ℤ) (floats : List FloatBox)
+        → IsContentSmall c own rise s → IsBandIn b c.cb
+        → AllByRecursion (IsLevelIn b) (y ∷ least ∷ []) → AllByRecursion (IsFloatIn b) floats
         → AreLinesIn own (grown b (together (charge own rise s) (content c.tree c.container)))
         (lines_in c y least floats) }
 {}

@@ -17,5 +17,6 @@ pub fn coordinates_of_a_page_are_small(tree: &BoxTree, world: World)
     requires narrow { world.w ≤ MOST_PIXELS }
     requires sized { world.s ≤ MOST_SIZE }
     requires low { world.h ≤ MOST_PIXELS }
-    ensures { AllByRecursion (IsPlacedIn (all_around (2 ^ 70))) (page_rendering tree.now world).boxes }
+    ensures { AllByRecursion (IsPlacedIn (all_around (2 ^ 70)))
+        (page_rendering tree.now world).boxes }
 {}

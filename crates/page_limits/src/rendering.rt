@@ -21,6 +21,8 @@ pub fn coordinates_are_small_where_properties_are(tree: &BoxTree, world: World)
     requires boxes { (k : ℕ) → IsOnPage tree.now.boxes k → IsWhole tree.now k
         → ArePropertiesSmall tree.now world (2 ^ 42) k }
     requires raises { AreRaisesSmall tree.now world (2 ^ 42) }
-    requires lines { (k : ℕ) → IsOnPage tree.now.boxes k → IsInlineBoxSmall tree.now world (2 ^ 42) k }
-    ensures { AllByRecursion (IsPlacedIn (all_around (2 ^ 70))) (page_rendering tree.now world).boxes }
+    requires lines { (k : ℕ) → IsOnPage tree.now.boxes k
+        → IsInlineBoxSmall tree.now world (2 ^ 42) k }
+    ensures { AllByRecursion (IsPlacedIn (all_around (2 ^ 70)))
+        (page_rendering tree.now world).boxes }
 {}

@@ -72,7 +72,8 @@ fn met_rules(
     signs: &[bool],
     rules: &[Rule],
 ) -> Result<List<Rule>, Mem>
-    ensures { IfOk result (λ met. met ≡ filter (rule_met (sign_of features.now signs.now)) rules.now) }
+    ensures { IfOk result (λ met. met
+        ≡ filter (rule_met (sign_of features.now signs.now)) rules.now) }
 {
     let mut met = List::new(alloc);
     for rule in rules {
@@ -90,7 +91,8 @@ fn met_authors(
     sheets: &[Sheet],
     met: &mut List<Sheet>,
 ) -> Result<(), Mem>
-    ensures { OnOk result (met.new ≡ met.old ++ map (met_sheet (sign_of features.now signs.now)) sheets.now) }
+    ensures { OnOk result (met.new ≡ met.old
+        ++ map (met_sheet (sign_of features.now signs.now)) sheets.now) }
 {
     for sheet in sheets {
         let rules = met_rules(alloc, features, signs, sheet.rules.as_slice())?;
@@ -107,7 +109,8 @@ pub fn chosen(
     features: &List<Feature>,
     signs: &List<bool>,
 ) -> Result<List<Sheet>, Mem>
-    ensures { IfOk result (λ chosen. chosen ≡ met_sheets (sign_of features.now signs.now) sheets.now) }
+    ensures { IfOk result (λ chosen. chosen
+        ≡ met_sheets (sign_of features.now signs.now) sheets.now) }
 {
     let mut chosen = List::new(alloc);
     if let Some((default, authors)) = sheets.split_first() {

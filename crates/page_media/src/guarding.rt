@@ -18,7 +18,8 @@ fn held(n: i64) -> i64
 }
 
 fn one(alloc: Global, times: i64, edge: Edge) -> Result<Term, Mem>
-    ensures { IfOk result (λ term. term ≡ record { parts = record { times = times; edge = edge } ∷ [] }) }
+    ensures { IfOk result (λ term. term
+        ≡ record { parts = record { times = times; edge = edge } ∷ [] }) }
 {
     let mut parts = List::new(alloc);
     parts.push(Summand { times, edge })?;

@@ -93,9 +93,9 @@ fn note_all(known: &mut List<Feature>, features: &[Feature]) -> Result<(), Full>
 /// Notes what an entry asks for.
 fn note_entry(known: &mut List<Feature>, entry: &MediaEntry) -> Result<(), Full>
     requires { length known.old ≤ 16 }
-    ensures { MatchResult result
-        (λ _. (known.new ≡ noted_all known.old (asked_by_entry entry.now)) × (length known.new ≤ 16))
-        (λ full. full ≡ of_full.Past → 16 < length (noted_all known.old (asked_by_entry entry.now))) }
+    ensures { MatchResult result (λ _. (known.new ≡ noted_all known.old (asked_by_entry entry.now))
+        × (length known.new ≤ 16)) (λ full. full ≡ of_full.Past
+        → 16 < length (noted_all known.old (asked_by_entry entry.now))) }
 {
     if entry.on {
         note_all(known, entry.features.as_slice())
@@ -106,9 +106,10 @@ fn note_entry(known: &mut List<Feature>, entry: &MediaEntry) -> Result<(), Full>
 
 fn note_list(known: &mut List<Feature>, entries: &[MediaEntry]) -> Result<(), Full>
     requires { length known.old ≤ 16 }
-    ensures { MatchResult result
-        (λ _. (known.new ≡ noted_all known.old (flat_map asked_by_entry entries.now)) × (length known.new ≤ 16))
-        (λ full. full ≡ of_full.Past → 16 < length (noted_all known.old (flat_map asked_by_entry entries.now))) }
+    ensures { MatchResult result (λ _. (known.new
+        ≡ noted_all known.old (flat_map asked_by_entry entries.now)) × (length known.new ≤ 16))
+        (λ full. full ≡ of_full.Past → 16
+        < length (noted_all known.old (flat_map asked_by_entry entries.now))) }
 {
     for entry in entries {
         note_entry(known, entry)?;
@@ -131,10 +132,10 @@ fn note_rule(known: &mut List<Feature>, rule: &Rule) -> Result<(), Full>
 /// Notes what the rules of the author's sheet of this number ask for.
 fn note_rules(known: &mut List<Feature>, sheet: u32, rules: &[Rule]) -> Result<(), MediaFault>
     requires { length known.old ≤ 16 }
-    ensures { MatchResult result
-        (λ _. (known_behind known.old rules.now ≡ Ok known.new) × (length known.new ≤ 16))
-        (λ fault. fault ≢ of_media.Mem
-        → (at : ℕ) × (known_behind known.old rules.now ≡ Err at) × (fault ≡ of_media.TooManyQueries sheet at)) }
+    ensures { MatchResult result (λ _. (known_behind known.old rules.now ≡ Ok known.new)
+        × (length known.new ≤ 16)) (λ fault. fault ≢ of_media.Mem
+        → (at : ℕ) × (known_behind known.old rules.now ≡ Err at)
+        × (fault ≡ of_media.TooManyQueries sheet at)) }
 {
     for rule in rules {
         match note_rule(known, rule) {

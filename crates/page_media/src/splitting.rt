@@ -63,7 +63,8 @@ fn note_row(
     range: &Rect,
     w: u32,
 ) -> Result<(), Mem>
-    ensures { OnOk result (known.new ≡ fold (noted same_signs) known.old (row_of features.now range.now w)) }
+    ensures { OnOk result (known.new
+        ≡ fold (noted same_signs) known.old (row_of features.now range.now w)) }
 {
     for s in u64::from(range.sl)..u64::from(range.sh) + 1 {
         note(alloc, features, known, w, s as u32)?;

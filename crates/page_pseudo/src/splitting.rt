@@ -50,7 +50,8 @@ impl Lists {
 /// The lists of the nodes of a grown page.
 fn lists_of(alloc: Global, grown: Vec<GrownNode>) -> Result<Lists, Mem>
     ensures nodes { IfOk result (λ lists. lists.nodes ≡ map node_of grown.items) }
-    ensures winners { IfOk result (λ lists. lists.winners ≡ map (λ (g : GrownNode). g.winners) grown.items) }
+    ensures winners { IfOk result (λ lists. lists.winners
+        ≡ map (λ (g : GrownNode). g.winners) grown.items) }
     ensures from { IfOk result (λ lists. lists.from ≡ map (λ (g : GrownNode). g.from) grown.items) }
 {
     let mut lists = Lists::new(alloc);
@@ -64,7 +65,8 @@ fn lists_of(alloc: Global, grown: Vec<GrownNode>) -> Result<Lists, Mem>
 pub fn split(alloc: Global, grown: Vec<GrownNode>) -> Result<Grown, Mem>
     requires { IsPage (map node_of grown.items) }
     ensures nodes { IfOk result (λ g. g.page.nodes ≡ map node_of grown.items) }
-    ensures winners { IfOk result (λ g. g.cascaded.winners ≡ map (λ (g : GrownNode). g.winners) grown.items) }
+    ensures winners { IfOk result (λ g. g.cascaded.winners
+        ≡ map (λ (g : GrownNode). g.winners) grown.items) }
     ensures from { IfOk result (λ g. g.from ≡ map (λ (g : GrownNode). g.from) grown.items) }
 {
     let Lists {

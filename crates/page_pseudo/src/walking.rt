@@ -71,7 +71,8 @@ impl Growing {
     /// Ends the elements in which a node with this parent isn't, the innermost first.
     fn close_to(&mut self, seeds: Seeds<'_>, parent: Option<u32>) -> Result<(), Mem>
         requires growing { IsGrowing (written seeds) self.old }
-        requires going { self.old.going ≡ open_behind seeds.page.now.nodes (length self.old.numbers.items) }
+        requires going { self.old.going
+            ≡ open_behind seeds.page.now.nodes (length self.old.numbers.items) }
         requires parent { parent ≡ parent_at seeds.page.now.nodes (length self.old.numbers.items) }
         requires few { length self.old.numbers.items ≤ length seeds.page.now.nodes }
         ensures growing { OnOk result (IsGrowing (written seeds.entry) self.new) }
@@ -95,7 +96,8 @@ impl Growing {
         requires next { at ≡ length self.old.numbers.items }
         requires found { slice_get seeds.page.now.nodes at ≡ Some node.now }
         ensures growing { OnOk result (IsGrowing (written seeds.entry) self.new) }
-        ensures going { OnOk result (self.new.going ≡ open_behind seeds.entry.page.now.nodes (suc at)) }
+        ensures going { OnOk result (self.new.going
+            ≡ open_behind seeds.entry.page.now.nodes (suc at)) }
         ensures numbers { OnOk result (length self.new.numbers.items ≡ suc at) }
     {
         let new = number(self.grown.len())?;

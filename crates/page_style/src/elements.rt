@@ -56,7 +56,8 @@ pub fn element_style(
     parent: Option<&Style>,
 ) -> Result<Style, Mem>
     requires { AllByRecursion IsAllowed winners.now }
-    ensures is { IfOk result (IsComputed fonts.now node winners.now drawn (option_copied parent.entry)) }
+    ensures is { IfOk result (IsComputed fonts.now node winners.now drawn
+        (option_copied parent.entry)) }
     ensures room { IfErr result (λ _. 2 ^ 32 ≤ length fonts.now) }
 {
     let own = own_lengths(node, winners, drawn, parent);

@@ -213,7 +213,8 @@ pub fn border(
         (λ (t : Style). t.border.top) (option_copied parent.entry) winners.now) }
     ensures right { result.right ≡ if_drawn drawn.right (computed BorderRightWidth (width_of node)
         (λ (t : Style). t.border.right) (option_copied parent.entry) winners.now) }
-    ensures bottom { result.bottom ≡ if_drawn drawn.bottom (computed BorderBottomWidth (width_of node)
+    ensures bottom { result.bottom ≡ if_drawn drawn.bottom
+        (computed BorderBottomWidth (width_of node)
         (λ (t : Style). t.border.bottom) (option_copied parent.entry) winners.now) }
     ensures left { result.left ≡ if_drawn drawn.left (computed BorderLeftWidth (width_of node)
         (λ (t : Style). t.border.left) (option_copied parent.entry) winners.now) }

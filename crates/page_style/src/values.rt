@@ -181,7 +181,8 @@ pub fn keyword<A: Copy>(
 ) -> A
     requires inherits { inherits ≡ (row prop).inherits }
     requires initial { initial ≡ by_word says.now initial (row prop).initial }
-    ensures { result ≡ resolved (by_word says.now initial) parents (row prop).initial (specified prop winners.now) }
+    ensures { result ≡ resolved (by_word says.now initial) parents (row prop).initial
+        (specified prop winners.now) }
 {
     match specified_value(winners, prop, inherits) {
         Specified::Initial => initial,
@@ -200,7 +201,8 @@ pub fn length(
 ) -> Length
     requires inherits { (row prop).inherits ≡ false }
     requires initial { initial ≡ length_of node (row prop).initial }
-    ensures { result ≡ resolved (length_of node) parents (row prop).initial (specified prop winners.now) }
+    ensures { result ≡ resolved (length_of node) parents (row prop).initial
+        (specified prop winners.now) }
 {
     match specified_value(winners, prop, false) {
         Specified::Initial => initial,
@@ -218,7 +220,8 @@ pub fn maximum(
 ) -> Option<Length>
     requires inherits { (row prop).inherits ≡ false }
     requires initial { (row prop).initial ≡ Word 0 }
-    ensures { result ≡ resolved (maximum_of node) parents (row prop).initial (specified prop winners.now) }
+    ensures { result ≡ resolved (maximum_of node) parents (row prop).initial
+        (specified prop winners.now) }
 {
     match specified_value(winners, prop, false) {
         Specified::Initial => None,
@@ -231,7 +234,8 @@ pub fn maximum(
 pub fn border_width(winners: &[Setting], prop: Prop, node: u32, parents: Option<Length>) -> Length
     requires inherits { (row prop).inherits ≡ false }
     requires initial { (row prop).initial ≡ Word 1 }
-    ensures { result ≡ resolved (width_of node) parents (row prop).initial (specified prop winners.now) }
+    ensures { result ≡ resolved (width_of node) parents (row prop).initial
+        (specified prop winners.now) }
 {
     match specified_value(winners, prop, false) {
         Specified::Initial => Length::Px(192),
@@ -242,7 +246,8 @@ pub fn border_width(winners: &[Setting], prop: Prop, node: u32, parents: Option<
 
 /// The computed font size, beside the parent's where there is a parent.
 pub fn font_size(winners: &[Setting], parents: Option<Size>) -> Size
-    ensures { result ≡ resolved size_of parents (row FontSize).initial (specified FontSize winners.now) }
+    ensures { result ≡ resolved size_of parents (row FontSize).initial
+        (specified FontSize winners.now) }
 {
     match specified_value(winners, Prop::FontSize, true) {
         Specified::Value(value) => size_of(value),

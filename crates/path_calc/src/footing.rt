@@ -54,7 +54,8 @@ impl<'a> Footing<'a> {
 
 /// How many variables a path has. None where numbers of 32 bits don't do for them.
 pub fn variable_count(path: &Path) -> Option<u32>
-    ensures { IfSome result (λ count. count ≡ length path.now.floors + axis_count path.now.origin.form) }
+    ensures { IfSome result (λ count. count
+        ≡ length path.now.floors + axis_count path.now.origin.form) }
 {
     u32::try_from(
         path.floors

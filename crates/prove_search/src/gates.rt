@@ -14,7 +14,7 @@ use cert_lemmas::with_lemmas;
 use cert_text::{Cert, CertNode, has_spelling, write_cert};
 use path_search::Finding;
 use std::alloc::Global;
-use viz_base::{Job, Mem, Rect, World, lies_in, world_count};
+use viz_base::{Job, Mem, World, lies_in, world_count};
 
 /// The most bytes that a certificate's text may have: 64 MiB.
 pub const MOST_BYTES: u64 = 1 << 26;
@@ -57,7 +57,8 @@ fn is_of_its_form(cert: &Cert) -> bool
 /// Whether the text of a certificate that has one has at most so many bytes.
 fn has_short_text(alloc: Global, cert: &Cert, most: u64) -> Result<bool, Mem>
     requires { (text : List ℕ) × CertText cert.now text }
-    ensures { IfOk result (λ yes. IsTrue yes ↔ ((text : List ℕ) × CertText cert.now text × (length text ≤ most))) }
+    ensures { IfOk result (λ yes. IsTrue yes
+        ↔ ((text : List ℕ) × CertText cert.now text × (length text ≤ most))) }
 {
     let text = write_cert(alloc, cert)?;
     Ok(text.len() as u64 <= most)
@@ -104,7 +105,8 @@ fn judged(
     requires turn { 0 < turns }
     requires bounds { IsWithinBounds job.now turns most cert }
     ensures outcome { IfOk result (λ kept. IfSome kept (IsOutcome job.now turns most)) }
-    ensures decides { IfOk result (λ kept. IfSome kept (λ outcome. Decides outcome (Holds job.now))) }
+    ensures decides { IfOk result (λ kept. IfSome kept
+        (λ outcome. Decides outcome (Holds job.now))) }
 {
     match check(alloc, job, &cert)? {
         Verdict::Accepted => Ok(Some(Outcome::Proved(cert))),
@@ -139,7 +141,8 @@ fn gated(
 ) -> Result<Option<Outcome>, Mem>
     requires { 0 < turns }
     ensures outcome { IfOk result (λ kept. IfSome kept (IsOutcome job.now turns most)) }
-    ensures decides { IfOk result (λ kept. IfSome kept (λ outcome. Decides outcome (Holds job.now))) }
+    ensures decides { IfOk result (λ kept. IfSome kept
+        (λ outcome. Decides outcome (Holds job.now))) }
 {
     if is_within_bounds(alloc, job, &cert, turns, most)? {
         judged(alloc, job, cert, turns, most)
@@ -159,7 +162,8 @@ fn proved(
 ) -> Result<Option<Outcome>, Mem>
     requires { 0 < turns }
     ensures outcome { IfOk result (λ kept. IfSome kept (IsOutcome job.now turns most)) }
-    ensures decides { IfOk result (λ kept. IfSome kept (λ outcome. Decides outcome (Holds job.now))) }
+    ensures decides { IfOk result (λ kept. IfSome kept
+        (λ outcome. Decides outcome (Holds job.now))) }
 {
     if let Some(shorter) = with_lemmas(alloc, job.form, &cert)? {
         let kept = gated(alloc, job, shorter, turns, most)?;
@@ -193,7 +197,8 @@ pub fn confirmed(
     most: u64,
 ) -> Result<Option<Outcome>, Mem>
     ensures outcome { IfOk result (λ kept. IfSome kept (IsOutcome job.now turns most)) }
-    ensures decides { IfOk result (λ kept. IfSome kept (λ outcome. Decides outcome (Holds job.now))) }
+    ensures decides { IfOk result (λ kept. IfSome kept
+        (λ outcome. Decides outcome (Holds job.now))) }
 {
     if turns == 0 {
         return Ok(None);

@@ -15,7 +15,8 @@ use viz_base::{List, Mem};
 /// That the row of a floor is at least its number times the floor.
 fn lower_fact(floor: &Floor, variable: u32) -> Result<Row, RowFault>
     requires { pos 0 <ℤ floor.now.by }
-    ensures { IsExact result (plus floor.now.row (negsuc 0) (row_of (pos 0) floor.now.by variable)) }
+    ensures { IsExact result (plus floor.now.row (negsuc 0)
+        (row_of (pos 0) floor.now.by variable)) }
 {
     let product = Row::of_term(floor.row.terms.allocator(), 0, variable, floor.by)?;
     floor.row.add_scaled(-1, &product)
@@ -24,7 +25,8 @@ fn lower_fact(floor: &Floor, variable: u32) -> Result<Row, RowFault>
 /// That the row of a floor is below its number times one more than the floor.
 fn upper_fact(floor: &Floor, variable: u32) -> Result<Row, RowFault>
     requires { pos 0 <ℤ floor.now.by }
-    ensures { IsExact result (plus (row_of (floor.now.by -ℤ pos 1) floor.now.by variable) (negsuc 0) floor.now.row) }
+    ensures { IsExact result (plus (row_of (floor.now.by -ℤ pos 1) floor.now.by variable)
+        (negsuc 0) floor.now.row) }
 {
     let most = Row::of_term(
         floor.row.terms.allocator(),
@@ -44,7 +46,8 @@ pub fn add_floor(
 ) -> Result<(), RowFault>
     requires above { pos 0 <ℤ floor.by }
     requires new { list_any (same_floor floor) floors.old ≡ false }
-    ensures rows { OnOk result (rows.new ≡ rows.old ++ step_facts variable (def floor.row floor.by)) }
+    ensures rows { OnOk result (rows.new
+        ≡ rows.old ++ step_facts variable (def floor.row floor.by)) }
     ensures floors { OnOk result (floors.new ≡ floors.old ++ floor ∷ []) }
     ensures same_rows { OnErr result (rows.new ≡ rows.old) }
     ensures same_floors { OnErr result (floors.new ≡ floors.old) }

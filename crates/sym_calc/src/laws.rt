@@ -10,7 +10,8 @@ use crate::sym::Sym;
 
 /// Each world that a symbolic calc keeps is open, whatever was asked of it.
 pub fn sym_keeps_its_worlds(sym: &Sym<'_>)
-    ensures { (w : World) → IsTrue ((state_of sym.now).kept.worlds w) → IsOpenWorld (state_of sym.now) w }
+    ensures { (w : World) → IsTrue ((state_of sym.now).kept.worlds w)
+        → IsOpenWorld (state_of sym.now) w }
 {}
 
 /// The worlds that are kept over the facts and floors of a certificate's path are those of the range on it, and so are

@@ -39,7 +39,8 @@ impl Path {
     /// The path to the root of a certificate for a job of a form: the facts of the range, which has one height in
     /// form 1.
     pub fn new(alloc: Global, form: u8, range: Rect) -> Result<Self, AllocError>
-        ensures origin { IfOk result (λ path. path.origin ≡ record { form = form; height = range.hl }) }
+        ensures origin { IfOk result (λ path. path.origin
+            ≡ record { form = form; height = range.hl }) }
         ensures facts { IfOk result (λ path. path.facts ≡ range_facts form range) }
         ensures floors { IfOk result (λ path. path.floors ≡ []) }
         ensures known { IfOk result (λ path. AreKnown form path.facts path.floors) }
@@ -65,7 +66,8 @@ impl Path {
         requires new { list_any (same_floor floor) self.old.floors ≡ false }
         requires next { variable ≡ length self.old.floors + axis_count self.old.origin.form }
         ensures origin { self.new.origin ≡ self.old.origin }
-        ensures facts { OnOk result (self.new.facts ≡ self.old.facts ++ step_facts variable (def floor.row floor.by)) }
+        ensures facts { OnOk result (self.new.facts
+            ≡ self.old.facts ++ step_facts variable (def floor.row floor.by)) }
         ensures floors { OnOk result (self.new.floors ≡ self.old.floors ++ floor ∷ []) }
         ensures same_facts { OnErr result (self.new.facts ≡ self.old.facts) }
         ensures same_floors { OnErr result (self.new.floors ≡ self.old.floors) }

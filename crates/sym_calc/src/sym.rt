@@ -11,7 +11,6 @@ ghost use Rattle.lin_proof.specs.Derivations.{are_declared, first_fault, lines_o
 ghost use Rattle.cert_path.specs.Axes.{axis_count, variable_of};
 ghost use Rattle.cert_path.specs.Facts.{row_of};
 ghost use Rattle.cert_path.specs.Shapes.{has_remainders, has_variable};
-ghost use Rattle.viz_calc.specs.World.{Reading};
 ghost use Rattle.sym_calc.specs.Floors.{same_floor};
 ghost use Rattle.sym_calc.specs.Divided.{can_be, divided, division_fits, floor_variable, is_floor, multiple};
 ghost use Rattle.sym_calc.specs.Given.{IsGiven, IsGivenWithin, IsTallied, IsWithin};
@@ -64,7 +63,7 @@ fn raised(count: u64) -> u64
 }
 
 impl<'a> Sym<'a> {
-    ghost use Rattle.viz_calc.specs.State.{Grows, KeepsWorlds, Cause, IsDecided};
+    ghost use Rattle.viz_calc.specs.State.{Grows, KeepsWorlds, Cause, IsDecided, WhereOpen};
     ghost use Rattle.viz_calc.specs.declared.calc.Halt.TheVariants.{Open};
     ghost use Rattle.sym_calc.specs.Troubles.{first_of};
     ghost use Rattle.sym_calc.specs.Calc.{facts_of, named_of, state_of, variables_of, next_trouble, trouble_by_answer, contrary_fits, KeepsRest};
@@ -127,8 +126,8 @@ impl<'a> Sym<'a> {
         requires remainders { IsTrue (has_remainders floor.by floor.row) }
         ensures grows { Grows (state_of self.old) (state_of self.new) }
         ensures worlds { KeepsWorlds (state_of self.old) (state_of self.new) }
-        ensures value { IfOk result (λ x. (e : Reading) → IsTrue ((state_of self.new).is_open e)
-            → e.terms x ≡ int_div_euclid (value floor.row e.terms) floor.by) }
+        ensures value { IfOk result (λ x. WhereOpen (state_of self.new).is_open
+            (λ e. e.terms x ≡ int_div_euclid (value floor.row e.terms) floor.by)) }
         ensures cause { IfErr result (Cause (state_of self.old) (state_of self.new) ⊤) }
         ensures exact { let form = self.old.path.now.origin.form in
             IsGivenWithin result (floor_variable form (named_of self.old) floor)
@@ -156,8 +155,8 @@ impl<'a> Sym<'a> {
         requires new { list_any (same_floor floor) self.old.floors ≡ false }
         ensures grows { Grows (state_of self.old) (state_of self.new) }
         ensures worlds { KeepsWorlds (state_of self.old) (state_of self.new) }
-        ensures value { IfOk result (λ x. (e : Reading) → IsTrue ((state_of self.new).is_open e)
-            → e.terms x ≡ int_div_euclid (value floor.row e.terms) floor.by) }
+        ensures value { IfOk result (λ x. WhereOpen (state_of self.new).is_open
+            (λ e. e.terms x ≡ int_div_euclid (value floor.row e.terms) floor.by)) }
         ensures cause { IfErr result (Cause (state_of self.old) (state_of self.new) ⊤) }
         ensures exact { let next = variables_of self.old in
             IsGivenWithin result next (can_be next floor) }
@@ -202,8 +201,8 @@ impl<'a> Sym<'a> {
         requires { pos 0 <ℤ by }
         ensures grows { Grows (state_of self.old) (state_of self.new) }
         ensures worlds { KeepsWorlds (state_of self.old) (state_of self.new) }
-        ensures value { IfOk result (λ r. (e : Reading) → IsTrue ((state_of self.new).is_open e)
-            → value r e.terms ≡ int_div_euclid (value row.now e.terms) by) }
+        ensures value { IfOk result (λ r. WhereOpen (state_of self.new).is_open
+            (λ e. value r e.terms ≡ int_div_euclid (value row.now e.terms) by)) }
         ensures cause { IfErr result (Cause (state_of self.old) (state_of self.new) ⊤) }
         ensures exact { let form = self.old.path.now.origin.form in
             IsGivenWithin result (divided form (named_of self.old) by row.now)
@@ -226,15 +225,17 @@ impl<'a> Sym<'a> {
     fn answered(&mut self, row: Row) -> Result<bool, Halt>
         requires { IsTrue (form_fits row) }
         ensures grows { Grows (state_of self.old) (state_of self.new) }
-        ensures value { IfOk result (λ yes. (e : Reading) → IsTrue ((state_of self.new).is_open e)
-            → yes ≡ int_le (pos 0) (value row e.terms)) }
+        ensures value { IfOk result (λ yes. WhereOpen (state_of self.new).is_open
+            (λ e. yes ≡ int_le (pos 0) (value row e.terms))) }
         ensures cause { IfErr result (Cause (state_of self.old) (state_of self.new) ⊤) }
-        ensures within { IsWithin result (contrary_fits row (slice_get self.old.tape.now self.old.taken)) }
+        ensures within { IsWithin result
+            (contrary_fits row (slice_get self.old.tape.now self.old.taken)) }
         ensures answer { IfOk result (λ yes. next_trouble self.old row ≡ None) }
         ensures taken { OnOk result (self.new.taken ≡ self.old.taken + 1) }
         ensures told { self.new.told ≡ self.old.told }
         ensures opened { result ≡ Err Open → is_some (next_trouble self.old row) ≡ true }
-        ensures trouble { result ≡ Err Open → self.new.trouble ≡ first_of self.old.trouble (next_trouble self.old row) }
+        ensures trouble { result ≡ Err Open
+            → self.new.trouble ≡ first_of self.old.trouble (next_trouble self.old row) }
         ensures tallied { IsTallied result self.old.coeffs self.new.coeffs }
     {
         let tape = self.tape;
@@ -248,8 +249,8 @@ impl<'a> Sym<'a> {
     fn recalled(&mut self, question: Alike) -> Result<bool, Halt>
         requires { IsTrue (form_fits question.row) }
         ensures grows { Grows (state_of self.old) (state_of self.new) }
-        ensures value { IfOk result (λ yes. (e : Reading) → IsTrue ((state_of self.new).is_open e)
-            → yes ≡ int_le (pos 0) (value question.row e.terms)) }
+        ensures value { IfOk result (λ yes. WhereOpen (state_of self.new).is_open
+            (λ e. yes ≡ int_le (pos 0) (value question.row e.terms))) }
         ensures cause { IfErr result (Cause (state_of self.old) (state_of self.new) ⊤) }
         ensures within { IsWithin result (is_some (tells self.old.told question)
             || contrary_fits question.row (slice_get self.old.tape.now self.old.taken)) }
@@ -257,7 +258,8 @@ impl<'a> Sym<'a> {
             ⊎ (next_trouble self.old question.row ≡ None)) }
         ensures taken { let told = is_some (tells self.old.told question) in
             OnOk result (self.new.taken ≡ (if told then self.old.taken else self.old.taken + 1)) }
-        ensures told { let told = is_some (tells self.old.told question) in IfOk result (λ yes. self.new.told
+        ensures told { let told = is_some (tells self.old.told question) in IfOk result
+            (λ yes. self.new.told
             ≡ (if told then self.old.told else learned self.old.told question yes)) }
         ensures opened { result ≡ Err Open → is_some (next_trouble self.old question.row) ≡ true }
         ensures trouble { result ≡ Err Open
@@ -274,10 +276,11 @@ impl<'a> Sym<'a> {
     fn asked(&mut self, question: Alike) -> Result<bool, Halt>
         requires { IsTrue (form_fits question.row) }
         ensures grows { Grows (state_of self.old) (state_of self.new) }
-        ensures value { IfOk result (λ yes. (e : Reading) → IsTrue ((state_of self.new).is_open e)
-            → yes ≡ int_le (pos 0) (value question.row e.terms)) }
+        ensures value { IfOk result (λ yes. WhereOpen (state_of self.new).is_open
+            (λ e. yes ≡ int_le (pos 0) (value question.row e.terms))) }
         ensures cause { IfErr result (Cause (state_of self.old) (state_of self.new) ⊤) }
-        ensures within { IsWithin result (contrary_fits question.row (slice_get self.old.tape.now self.old.taken)) }
+        ensures within { IsWithin result
+            (contrary_fits question.row (slice_get self.old.tape.now self.old.taken)) }
         ensures answer { IfOk result (λ yes. next_trouble self.old question.row ≡ None) }
         ensures taken { OnOk result (self.new.taken ≡ self.old.taken + 1) }
         ensures told { IfOk result (λ yes. self.new.told ≡ learned self.old.told question yes) }
@@ -298,16 +301,18 @@ impl<'a> Sym<'a> {
         requires room { self.old.taken + 1 < 2 ^ 64 }
         requires fits { IsTrue (form_fits row) }
         ensures grows { Grows (state_of self.old) (state_of self.new) }
-        ensures value { IfOk result (λ yes. (e : Reading) → IsTrue ((state_of self.new).is_open e)
-            → yes ≡ int_le (pos 0) (value row e.terms)) }
+        ensures value { IfOk result (λ yes. WhereOpen (state_of self.new).is_open
+            (λ e. yes ≡ int_le (pos 0) (value row e.terms))) }
         ensures cause { IfErr result (Cause (state_of self.old) (state_of self.new) ⊤) }
         ensures within { IsWithin result (form_fits (contrary answer.now.yes row)) }
         ensures answer { IfOk result (λ yes. trouble_by_answer self.old row answer.now ≡ None) }
         ensures taken { OnOk result (self.new.taken ≡ self.old.taken + 1) }
         ensures told { self.new.told ≡ self.old.told }
-        ensures opened { result ≡ Err Open → is_some (trouble_by_answer self.old row answer.now) ≡ true }
+        ensures opened { result ≡ Err Open
+            → is_some (trouble_by_answer self.old row answer.now) ≡ true }
         ensures trouble { result ≡ Err Open
-            → self.new.trouble ≡ first_of self.old.trouble (trouble_by_answer self.old row answer.now) }
+            → self.new.trouble ≡ first_of self.old.trouble
+            (trouble_by_answer self.old row answer.now) }
         ensures tallied { IsTallied result self.old.coeffs self.new.coeffs }
     {
         let Ok(number) = u32::try_from(self.taken) else {
@@ -344,8 +349,8 @@ impl<'a> Sym<'a> {
 
     /// The first wrong line of a derivation from all facts and from one more, which is taken back.
     fn fault_of(&mut self, contrary: Row, why: &Derivation) -> Result<Option<u32>, Mem>
-        ensures line { IfOk result (λ line.
-            line ≡ first_fault (facts_of self.old ++ contrary ∷ []) (variables_of self.old) why.now) }
+        ensures line { IfOk result (λ line. line
+            ≡ first_fault (facts_of self.old ++ contrary ∷ []) (variables_of self.old) why.now) }
         ensures state { state_of self.new ≡ state_of self.old }
         ensures rest { KeepsRest self.old self.new }
         ensures tallied { self.new.coeffs ≡ self.old.coeffs }
@@ -470,7 +475,7 @@ fn fault_below(
 impl<'a> Calc for Sym<'a> {
     ghost use Rattle.std.specs.Prelude.{◌*◌, ◌+ℤ◌, ◌*ℤ◌, ◌⊎◌};
     ghost use Rattle.std.proofs.Common.{inl, refl};
-    ghost use Rattle.viz_calc.specs.State.{Stands, Grows, KeepsWorlds, Fits, Cause, IsCounted, IsDecided};
+    ghost use Rattle.viz_calc.specs.State.{Stands, Grows, KeepsWorlds, Fits, Cause, IsCounted, IsDecided, WhereOpen};
     ghost use Rattle.viz_calc.specs.declared.calc.Halt.TheVariants.{Open};
     ghost use Rattle.sym_calc.specs.Knowledge.{number_at};
     ghost use Rattle.sym_calc.specs.Troubles.{first_of};
@@ -507,7 +512,8 @@ impl<'a> Calc for Sym<'a> {
     fn width(&mut self) -> Result<Row, Halt>
         ensures grows { Grows (state_of self.old) (state_of self.new) }
         ensures worlds { KeepsWorlds (state_of self.old) (state_of self.new) }
-        ensures value { IfOk result (λ r. Stands (state_of self.new) (number_at r) (λ e. pos (64 * e.world.w))) }
+        ensures value { IfOk result (λ r. Stands (state_of self.new) (number_at r)
+            (λ e. pos (64 * e.world.w))) }
         ensures cause { IfErr result (Cause (state_of self.old) (state_of self.new)
             (Fits (state_of self.new) (λ e. pos (64 * e.world.w) ∷ []))) }
         ensures counted { IfErr result (IsCounted true (state_of self.old) (state_of self.new)) }
@@ -521,7 +527,8 @@ impl<'a> Calc for Sym<'a> {
     fn height(&mut self) -> Result<Row, Halt>
         ensures grows { Grows (state_of self.old) (state_of self.new) }
         ensures worlds { KeepsWorlds (state_of self.old) (state_of self.new) }
-        ensures value { IfOk result (λ r. Stands (state_of self.new) (number_at r) (λ e. pos (64 * e.world.h))) }
+        ensures value { IfOk result (λ r. Stands (state_of self.new) (number_at r)
+            (λ e. pos (64 * e.world.h))) }
         ensures cause { IfErr result (Cause (state_of self.old) (state_of self.new)
             (Fits (state_of self.new) (λ e. pos (64 * e.world.h) ∷ []))) }
         ensures counted { IfErr result (IsCounted true (state_of self.old) (state_of self.new)) }
@@ -535,7 +542,8 @@ impl<'a> Calc for Sym<'a> {
     fn size(&mut self) -> Result<Row, Halt>
         ensures grows { Grows (state_of self.old) (state_of self.new) }
         ensures worlds { KeepsWorlds (state_of self.old) (state_of self.new) }
-        ensures value { IfOk result (λ r. Stands (state_of self.new) (number_at r) (λ e. pos (64 * e.world.s))) }
+        ensures value { IfOk result (λ r. Stands (state_of self.new) (number_at r)
+            (λ e. pos (64 * e.world.s))) }
         ensures cause { IfErr result (Cause (state_of self.old) (state_of self.new)
             (Fits (state_of self.new) (λ e. pos (64 * e.world.s) ∷ []))) }
         ensures counted { IfErr result (IsCounted true (state_of self.old) (state_of self.new)) }
@@ -549,7 +557,8 @@ impl<'a> Calc for Sym<'a> {
     fn copy(&mut self, a: &Row) -> Result<Row, Halt>
         ensures grows { Grows (state_of self.old) (state_of self.new) }
         ensures worlds { KeepsWorlds (state_of self.old) (state_of self.new) }
-        ensures value { IfOk result (λ r. Stands (state_of self.new) (number_at r) (λ e. number_at a.now e)) }
+        ensures value { IfOk result (λ r. Stands (state_of self.new) (number_at r)
+            (λ e. number_at a.now e)) }
         ensures cause { IfErr result (Cause (state_of self.old) (state_of self.new)
             (Fits (state_of self.new) (λ e. number_at a.now e ∷ []))) }
         ensures counted { IfErr result (IsCounted true (state_of self.old) (state_of self.new)) }
@@ -599,7 +608,8 @@ impl<'a> Calc for Sym<'a> {
         ensures value { IfOk result (λ r. Stands (state_of self.new) (number_at r)
             (λ e. int_div_euclid (num *ℤ number_at a.now e) (pos den))) }
         ensures cause { IfErr result (Cause (state_of self.old) (state_of self.new)
-            (Fits (state_of self.new) (λ e. int_div_euclid (num *ℤ number_at a.now e) (pos den) ∷ []))) }
+            (Fits (state_of self.new) (λ e. int_div_euclid (num *ℤ number_at a.now e) (pos den)
+            ∷ []))) }
         ensures counted { IfErr result (IsCounted true (state_of self.old) (state_of self.new)) }
         ensures decided { IsDecided result }
         ensures exact { let row = multiple num a.now in let floors = named_of self.old in
@@ -615,16 +625,16 @@ impl<'a> Calc for Sym<'a> {
 
     fn le(&mut self, a: &Row, b: &Row) -> Result<bool, Halt>
         ensures grows { Grows (state_of self.old) (state_of self.new) }
-        ensures value { IfOk result (λ r. (e : Reading) → IsTrue ((state_of self.new).is_open e)
-            → r ≡ int_le (number_at a.now e) (number_at b.now e)) }
+        ensures value { IfOk result (λ r. WhereOpen (state_of self.new).is_open
+            (λ e. r ≡ int_le (number_at a.now e) (number_at b.now e))) }
         ensures cause { IfErr result (Cause (state_of self.old) (state_of self.new) ⊤) }
         ensures within { IsWithin result (comparison_fits self.old (plus b.now (negsuc 0) a.now)) }
         ensures answer { let row = plus b.now (negsuc 0) a.now in
             IfOk result (λ r. (row.terms ≡ []) ⊎ (next_trouble self.old row ≡ None)) }
         ensures opened { let row = plus b.now (negsuc 0) a.now in
             result ≡ Err Open → is_some (next_trouble self.old row) ≡ true }
-        ensures trouble { let row = plus b.now (negsuc 0) a.now in
-            result ≡ Err Open → self.new.trouble ≡ first_of self.old.trouble (next_trouble self.old row) }
+        ensures trouble { let row = plus b.now (negsuc 0) a.now in result ≡ Err Open
+            → self.new.trouble ≡ first_of self.old.trouble (next_trouble self.old row) }
         ensures tallied { IsTallied result self.old.coeffs self.new.coeffs }
     {
         let difference = b.add_scaled(-1, a);
@@ -638,19 +648,21 @@ impl<'a> Calc for Sym<'a> {
 
     fn at_most(&mut self, a: &Row, b: &Row) -> Result<bool, Halt>
         ensures grows { Grows (state_of self.old) (state_of self.new) }
-        ensures value { IfOk result (λ r. (e : Reading) → IsTrue ((state_of self.new).is_open e)
-            → r ≡ int_le (number_at a.now e) (number_at b.now e)) }
+        ensures value { IfOk result (λ r. WhereOpen (state_of self.new).is_open
+            (λ e. r ≡ int_le (number_at a.now e) (number_at b.now e))) }
         ensures cause { IfErr result (Cause (state_of self.old) (state_of self.new) ⊤) }
         ensures within { IsWithin result (question_fits self.old (plus b.now (negsuc 0) a.now)) }
-        ensures answer { let row = plus b.now (negsuc 0) a.now in IfOk result (λ r. (row.terms ≡ [])
-            ⊎ ((tells self.old.told (record { row = row }) ≡ Some r) ⊎ (next_trouble self.old row ≡ None))) }
-        ensures taken { OnOk result (self.new.taken ≡ taken_after self.old (plus b.now (negsuc 0) a.now)) }
+        ensures answer { let row = plus b.now (negsuc 0) a.now in IfOk result
+            (λ r. (row.terms ≡ []) ⊎ ((tells self.old.told (record { row = row }) ≡ Some r)
+            ⊎ (next_trouble self.old row ≡ None))) }
+        ensures taken { OnOk result (self.new.taken
+            ≡ taken_after self.old (plus b.now (negsuc 0) a.now)) }
         ensures told { let row = plus b.now (negsuc 0) a.now in
             IfOk result (λ r. self.new.told ≡ told_after self.old row r) }
         ensures opened { let row = plus b.now (negsuc 0) a.now in
             result ≡ Err Open → is_some (next_trouble self.old row) ≡ true }
-        ensures trouble { let row = plus b.now (negsuc 0) a.now in
-            result ≡ Err Open → self.new.trouble ≡ first_of self.old.trouble (next_trouble self.old row) }
+        ensures trouble { let row = plus b.now (negsuc 0) a.now in result ≡ Err Open
+            → self.new.trouble ≡ first_of self.old.trouble (next_trouble self.old row) }
         ensures tallied { IsTallied result self.old.coeffs self.new.coeffs }
     {
         let difference = b.add_scaled(-1, a);

@@ -68,7 +68,8 @@ fn read_tokens(alloc: Global, tokens: List<Token>, end: u32) -> Result<Formula, 
 /// where that comes first; `Mem` for want of memory, as which a text of `2^32` bytes and more and a page of as many
 /// nodes count.
 pub fn read_formula(alloc: Global, text: &str, page: &Page) -> Result<Formula, FormulaFault>
-    ensures answer { MatchResult result (IsFormulaText page.now.nodes text.now) (IsFault page.now.nodes text.now) }
+    ensures answer { MatchResult result (IsFormulaText page.now.nodes text.now)
+        (IsFault page.now.nodes text.now) }
     ensures bound { IfOk result (λ f. is_bound_in f 0 ≡ true) }
     ensures small { length text.now ≤ MOST_FORMULA → IfOk result (λ f. has_small_terms f ≡ true) }
 {

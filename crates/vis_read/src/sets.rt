@@ -24,7 +24,8 @@ fn matches_one(group: &[Selector], page: &Page, node: u32) -> bool
 
 /// The nodes that a group of selectors matches. A page of `2^32` nodes and more counts as want of memory.
 fn matched(alloc: Global, group: &[Selector], page: &Page) -> Result<List<u32>, Mem>
-    ensures { IfOk result (AreMatched page.now.nodes (map spelled group.now) (length page.now.nodes)) }
+    ensures { IfOk result (AreMatched page.now.nodes (map spelled group.now)
+        (length page.now.nodes)) }
 {
     let mut found = List::new(alloc);
     let len = place(page.nodes.len())?;

@@ -41,7 +41,8 @@ impl<T> Stack<T> {
 
     /// Takes the top item, if there is one.
     pub fn pop(&mut self) -> Option<T>
-        ensures { MatchOption result ((self.old ≡ []) × (self.new ≡ [])) (λ item. self.old ≡ item ∷ self.new) }
+        ensures { MatchOption result ((self.old ≡ []) × (self.new ≡ []))
+            (λ item. self.old ≡ item ∷ self.new) }
     {
         self.items.pop()
     }

@@ -88,7 +88,8 @@ pub fn step_edge(reading: &Reading, sum: Sum, times: u32, lexeme: &Lexeme) -> Re
 
 /// Behind a number of units, which a `*` may follow where it is not too great.
 fn at_number(reading: &Reading, sum: Sum, number: u32) -> Result<Place, Mem>
-    ensures { IfOk result (λ place. at reading.now place ≡ at_number reading.now sum number (nat_le number 65536)) }
+    ensures { IfOk result (λ place. at reading.now place
+        ≡ at_number reading.now sum number (nat_le number 65536)) }
 {
     if number <= MOST_FACTOR {
         Ok(Place::Number(sum, number))

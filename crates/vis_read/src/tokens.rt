@@ -65,7 +65,8 @@ fn lexeme_at(alloc: Global, text: &str, at: usize, page: &Page) -> Result<(Lexem
 fn token_at(alloc: Global, text: &str, at: usize, page: &Page) -> Result<(Token, usize), Mem>
     requires { at < length text.now }
     ensures place { IfOk result (λ found. found.0.at ≡ at) }
-    ensures next { IfOk result (λ found. IsNext page.now.nodes (drop at text.now) found.0.lexeme found.1) }
+    ensures next { IfOk result (λ found. IsNext page.now.nodes
+        (drop at text.now) found.0.lexeme found.1) }
     ensures within { IfOk result (λ found. at + found.1 ≤ length text.now) }
 {
     let start = place(at)?;

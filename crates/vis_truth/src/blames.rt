@@ -38,7 +38,8 @@ fn is_failing(
 ) -> bool
     requires bounded { IsBoundedRendering r.now }
     requires small { IsTrue (has_small_terms body.now) }
-    ensures { result ≡ is_witness (scene_of r.now world) set.now body.now false (places_of names.now) place }
+    ensures { result ≡ is_witness (scene_of r.now world) set.now body.now false
+        (places_of names.now) place }
 {
     if !is_member_at(set, r, place) {
         return false;
@@ -80,7 +81,8 @@ fn collect(
     requires few { length r.now.boxes < 2 ^ 32 }
     requires bounded { IsBoundedRendering r.now }
     requires small { IsTrue (has_small_terms f.now) }
-    ensures { OnOk result (out.new ≡ out.old ++ blame_in (scene_of r.now world) f.now (places_of names.now)) }
+    ensures { OnOk result (out.new ≡ out.old
+        ++ blame_in (scene_of r.now world) f.now (places_of names.now)) }
 {
     match f {
         Formula::Forall(set, body) => {

@@ -1,7 +1,7 @@
 //! Truth over arithmetic that goes on after a halt, for crates whose own work is over such arithmetic too.
-ghost use Rattle.std.specs.Prelude.{◌≡◌, IsTrue, length};
+ghost use Rattle.std.specs.Prelude.{◌≡◌, length};
+ghost use Rattle.viz_calc.specs.State.{WhereOpen};
 ghost use Rattle.std.specs.List.{list_any, range_with_len};
-ghost use Rattle.viz_calc.specs.World.{Reading};
 ghost use Rattle.viz_calc.specs.Run.{Goes, Blames};
 ghost use Rattle.logic_semantics.specs.Truth.{truth_in, truth};
 ghost use Rattle.vis_truth.specs.Names.{places_of};
@@ -32,9 +32,11 @@ fn is_witness<S: Steady>(
     place: usize,
 ) -> bool
     ensures goes { Goes (S.run calc.old) (S.run calc.new) }
-    ensures value { (e : Reading) → IsTrue ((S.run calc.new).is_open e)
-        → result ≡ is_witness (scene_at S.at r.now e) set.now body.now wanted (places_of names.now) place }
-    ensures cause { Blames (S.run calc.old) (S.run calc.new) (IsTame (S.run calc.old).is_open S.at r.now body.now) }
+    ensures value { WhereOpen (S.run calc.new).is_open
+        (λ e. result ≡ is_witness (scene_at S.at r.now e) set.now body.now wanted
+        (places_of names.now) place) }
+    ensures cause { Blames (S.run calc.old) (S.run calc.new)
+        (IsTame (S.run calc.old).is_open S.at r.now body.now) }
 {
     if !is_member_at(set, r, place) {
         return false;
@@ -55,10 +57,11 @@ fn has_witness<S: Steady>(
     wanted: bool,
 ) -> bool
     ensures goes { Goes (S.run calc.old) (S.run calc.new) }
-    ensures value { (e : Reading) → IsTrue ((S.run calc.new).is_open e)
-        → result ≡ list_any (is_witness (scene_at S.at r.now e) set.now body.now wanted (places_of names.now))
-        (range_with_len 0 (length r.now.boxes)) }
-    ensures cause { Blames (S.run calc.old) (S.run calc.new) (IsTame (S.run calc.old).is_open S.at r.now body.now) }
+    ensures value { WhereOpen (S.run calc.new).is_open
+        (λ e. result ≡ list_any (is_witness (scene_at S.at r.now e) set.now body.now wanted
+        (places_of names.now)) (range_with_len 0 (length r.now.boxes))) }
+    ensures cause { Blames (S.run calc.old) (S.run calc.new)
+        (IsTame (S.run calc.old).is_open S.at r.now body.now) }
 {
     for place in 0..r.boxes.len() {
         if is_witness(calc, body, r, names, set, wanted, place) {
@@ -72,9 +75,10 @@ fn has_witness<S: Steady>(
 #[cycle(truth)]
 pub fn holds<S: Steady>(calc: &mut S, f: &Formula, r: &Rendering<S::Num>, names: &Names<'_>) -> bool
     ensures goes { Goes (S.run calc.old) (S.run calc.new) }
-    ensures value { (e : Reading) → IsTrue ((S.run calc.new).is_open e)
-        → result ≡ truth_in (scene_at S.at r.now e) f.now (places_of names.now) }
-    ensures cause { Blames (S.run calc.old) (S.run calc.new) (IsTame (S.run calc.old).is_open S.at r.now f.now) }
+    ensures value { WhereOpen (S.run calc.new).is_open
+        (λ e. result ≡ truth_in (scene_at S.at r.now e) f.now (places_of names.now)) }
+    ensures cause { Blames (S.run calc.old) (S.run calc.new)
+        (IsTame (S.run calc.old).is_open S.at r.now f.now) }
 {
     match f {
         Formula::Const(value) => *value,
@@ -95,9 +99,10 @@ pub fn holds<S: Steady>(calc: &mut S, f: &Formula, r: &Rendering<S::Num>, names:
 /// Whether a formula is true.
 pub fn truth<S: Steady>(calc: &mut S, f: &Formula, r: &Rendering<S::Num>) -> bool
     ensures goes { Goes (S.run calc.old) (S.run calc.new) }
-    ensures value { (e : Reading) → IsTrue ((S.run calc.new).is_open e)
-        → result ≡ truth (scene_at S.at r.now e) f.now }
-    ensures cause { Blames (S.run calc.old) (S.run calc.new) (IsTame (S.run calc.old).is_open S.at r.now f.now) }
+    ensures value { WhereOpen (S.run calc.new).is_open
+        (λ e. result ≡ truth (scene_at S.at r.now e) f.now) }
+    ensures cause { Blames (S.run calc.old) (S.run calc.new)
+        (IsTame (S.run calc.old).is_open S.at r.now f.now) }
 {
     holds(calc, f, r, &Names::Unbound)
 }

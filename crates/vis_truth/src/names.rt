@@ -30,7 +30,8 @@ impl Names<'_> {
 
     /// Whether two names are bound, and stand for the same place.
     pub fn are_same(&self, a: u32, b: u32) -> bool
-        ensures { result ≡ are_same (slice_get (places_of self.now) a) (slice_get (places_of self.now) b) }
+        ensures { result ≡ are_same (slice_get (places_of self.now) a)
+            (slice_get (places_of self.now) b) }
     {
         match (self.place(a), self.place(b)) {
             (Some(a), Some(b)) => a == b,

@@ -49,10 +49,10 @@ fn of_box<S: Steady>(
     face: Face,
 ) -> S::Num
     ensures { Lays S.run calc.old calc.new (S.at result)
-        (λ e. s.now.times *ℤ edge_value (scene_at S.at r.now e) (places_of names.now) (Edge.Name name ring face))
-        (λ e. AllSmall
-        ((s.now.times *ℤ edge_value (scene_at S.at r.now e) (places_of names.now) (Edge.Name name ring face))
-        ∷ [])) }
+        (λ e. s.now.times *ℤ edge_value (scene_at S.at r.now e) (places_of names.now)
+        (Edge.Name name ring face)) (λ e. AllSmall
+        ((s.now.times *ℤ edge_value (scene_at S.at r.now e) (places_of names.now)
+        (Edge.Name name ring face)) ∷ [])) }
 {
     match find(r, names, name) {
         Some(b) => multiple(calc, s, face_of(ring_of(b, ring), face)),
@@ -94,8 +94,10 @@ fn total<S: Steady>(
     parts: &[Summand],
 ) -> S::Num
     ensures { Lays S.run calc.old calc.new (S.at result)
-        (λ e. fold ◌+ℤ◌ (pos 0) (map (summand_value (scene_at S.at r.now e) (places_of names.now)) parts.now))
-        (λ e. AllSmall (pos 0 ∷ sum_parts (scene_at S.at r.now e) (places_of names.now) (pos 0) parts.now)) }
+        (λ e. fold ◌+ℤ◌ (pos 0) (map (summand_value (scene_at S.at r.now e)
+        (places_of names.now)) parts.now))
+        (λ e. AllSmall (pos 0 ∷ sum_parts (scene_at S.at r.now e) (places_of names.now)
+        (pos 0) parts.now)) }
 {
     let mut sum = zero(calc);
     for s in parts {
@@ -116,21 +118,24 @@ pub fn term<S: Steady>(calc: &mut S, r: &Rendering<S::Num>, names: &Names<'_>, t
 
 /// Whether two numbers are equal.
 fn equal<S: Steady>(calc: &mut S, a: &S::Num, b: &S::Num) -> bool
-    ensures { Lays S.run calc.old calc.new (λ e. result) (λ e. int_eq (S.at a.now e) (S.at b.now e)) (λ e. ⊤) }
+    ensures { Lays S.run calc.old calc.new (λ e. result) (λ e. int_eq (S.at a.now e) (S.at b.now e))
+        (λ e. ⊤) }
 {
     calc.le(a, b) && calc.le(b, a)
 }
 
 /// Whether a number is less than another.
 fn less<S: Steady>(calc: &mut S, a: &S::Num, b: &S::Num) -> bool
-    ensures { Lays S.run calc.old calc.new (λ e. result) (λ e. int_lt (S.at a.now e) (S.at b.now e)) (λ e. ⊤) }
+    ensures { Lays S.run calc.old calc.new (λ e. result) (λ e. int_lt (S.at a.now e) (S.at b.now e))
+        (λ e. ⊤) }
 {
     !calc.le(b, a)
 }
 
 /// Whether a comparison is true of two numbers.
 pub fn compare<S: Steady>(calc: &mut S, a: &S::Num, sign: Sign, b: &S::Num) -> bool
-    ensures { Lays S.run calc.old calc.new (λ e. result) (λ e. compares sign (S.at a.now e) (S.at b.now e)) (λ e. ⊤) }
+    ensures { Lays S.run calc.old calc.new (λ e. result)
+        (λ e. compares sign (S.at a.now e) (S.at b.now e)) (λ e. ⊤) }
 {
     match sign {
         Sign::Lt => less(calc, a, b),
@@ -171,8 +176,8 @@ fn spans_overlap<S: Steady>(
     b_end: &S::Num,
 ) -> bool
     ensures { Lays S.run calc.old calc.new (λ e. result)
-        (λ e. (int_lt (S.at a_start.now e) (S.at b_end.now e) && int_lt (S.at b_start.now e) (S.at a_end.now e)))
-        (λ e. ⊤) }
+        (λ e. (int_lt (S.at a_start.now e) (S.at b_end.now e) && int_lt (S.at b_start.now e)
+        (S.at a_end.now e))) (λ e. ⊤) }
 {
     less(calc, a_start, b_end) && less(calc, b_start, a_end)
 }

@@ -1,6 +1,5 @@
 ghost use Rattle.std.specs.Prelude.{◌≡◌, Some, IsTrue, IfOk, IfErr};
-ghost use Rattle.viz_calc.specs.World.{Reading};
-ghost use Rattle.viz_calc.specs.State.{Grows, AreOpen, Cause, is_told};
+ghost use Rattle.viz_calc.specs.State.{Grows, AreOpen, Cause, is_told, WhereOpen};
 ghost use Rattle.logic_semantics.specs.Truth.{truth, truth_in};
 ghost use Rattle.vis_truth.specs.Names.{places_of};
 ghost use Rattle.vis_truth.specs.Scenes.{scene_at, IsTame};
@@ -16,8 +15,8 @@ use viz_calc::{Calc, Halt, Latch};
 /// edges are at most 2^70 in size and the formula's terms are small; `Halt::Open` only where the calc's own count rose.
 pub fn truth<C: Calc>(calc: &mut C, f: &Formula, r: &Rendering<C::Num>) -> Result<bool, Halt>
     ensures grows { Grows (C.state calc.old) (C.state calc.new) }
-    ensures value { IfOk result (λ yes. (e : Reading) → IsTrue ((C.state calc.new).is_open e)
-        → yes ≡ truth (scene_at C.at r.now e) f.now) }
+    ensures value { IfOk result (λ yes. WhereOpen (C.state calc.new).is_open
+        (λ e. yes ≡ truth (scene_at C.at r.now e) f.now)) }
     ensures kept { AreOpen (C.state calc.old).kept (C.state calc.new) }
     ensures cause { IfErr result (Cause (C.state calc.old) (C.state calc.new)
         (IsTame (C.state calc.old).is_open C.at r.now f.now)) }
@@ -36,8 +35,8 @@ pub fn truth_in<C: Calc>(
     names: &Names<'_>,
 ) -> Result<bool, Halt>
     ensures grows { Grows (C.state calc.old) (C.state calc.new) }
-    ensures value { IfOk result (λ yes. (e : Reading) → IsTrue ((C.state calc.new).is_open e)
-        → yes ≡ truth_in (scene_at C.at r.now e) f.now (places_of names.now)) }
+    ensures value { IfOk result (λ yes. WhereOpen (C.state calc.new).is_open
+        (λ e. yes ≡ truth_in (scene_at C.at r.now e) f.now (places_of names.now))) }
     ensures kept { AreOpen (C.state calc.old).kept (C.state calc.new) }
     ensures cause { IfErr result (Cause (C.state calc.old) (C.state calc.new)
         (IsTame (C.state calc.old).is_open C.at r.now f.now)) }

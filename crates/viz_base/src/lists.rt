@@ -74,7 +74,8 @@ impl<T> List<T> {
     /// Runs over its items from first to last.
     pub fn iter(&self) -> Iter<'_, T>
         ensures rest { iter_rest result ≡ self.now }
-        ensures runs { EveryRun (iter_steps {A = T}) (λ p. ItemsMapTo p (λ y. y.now) (iter_rest p.from)) }
+        ensures runs { EveryRun (iter_steps {A = T})
+            (λ p. ItemsMapTo p (λ y. y.now) (iter_rest p.from)) }
     {
         self.items.as_slice().iter()
     }

@@ -19,6 +19,10 @@ pub record State : Type 0 where
   pub opens : ℕ
   pub kept : Kept
 
+-- this holds at each reading that is open
+abbrev pub WhereOpen : (Reading → Bool) → (Reading → Type 0) → Type 0
+WhereOpen is_open P = (e : Reading) → IsTrue (is_open e) → P e
+
 -- the number has this value at each reading that is open
 abbrev pub Stands : State → (Reading → ℤ) → (Reading → ℤ) → Type 0
 Stands s n f = (e : Reading) → IsTrue (s.is_open e) → n e ≡ f e

@@ -1,8 +1,8 @@
-ghost use Rattle.std.specs.Prelude.{◌≡◌, ◌≤◌, ℕ, ◌*◌, ℤ, Bool, ⊤, pos, ◌+ℤ◌, ◌-ℤ◌, ◌*ℤ◌, IsTrue, IfOk, IfErr, [], ◌∷◌};
+ghost use Rattle.std.specs.Prelude.{◌≡◌, ◌≤◌, ℕ, ◌*◌, ℤ, Bool, ⊤, pos, ◌+ℤ◌, ◌-ℤ◌, ◌*ℤ◌, IfOk, IfErr, [], ◌∷◌};
 ghost use Rattle.std.specs.Int.{int_div_euclid};
 ghost use Rattle.std.specs.Int.RustNames.{int_le};
 ghost use Rattle.viz_calc.specs.World.{Reading};
-ghost use Rattle.viz_calc.specs.State.{State, Stands, Grows, KeepsWorlds, AreOpen, Fits, Cause, IsCounted, IsDecided};
+ghost use Rattle.viz_calc.specs.State.{State, Stands, Grows, KeepsWorlds, AreOpen, Fits, Cause, IsCounted, IsDecided, WhereOpen};
 
 use std::alloc::{AllocError, AllocFailed};
 use thiserror::Error;
@@ -80,7 +80,8 @@ pub trait Calc {
         ensures grows { Grows (state self.old) (state self.new) }
         ensures worlds { KeepsWorlds (state self.old) (state self.new) }
         ensures value { IfOk result (λ r. Stands (state self.new) (at r) (λ e. v)) }
-        ensures cause { IfErr result (Cause (state self.old) (state self.new) (Fits (state self.new) (λ e. v ∷ []))) }
+        ensures cause { IfErr result (Cause (state self.old) (state self.new) (Fits (state self.new)
+            (λ e. v ∷ []))) }
         ensures counted { IfErr result (IsCounted counts (state self.old) (state self.new)) }
         ensures decided { IsDecided result };
 
@@ -88,7 +89,8 @@ pub trait Calc {
     fn width(&mut self) -> Result<Self::Num, Halt>
         ensures grows { Grows (state self.old) (state self.new) }
         ensures worlds { KeepsWorlds (state self.old) (state self.new) }
-        ensures value { IfOk result (λ r. Stands (state self.new) (at r) (λ e. pos (64 * e.world.w))) }
+        ensures value { IfOk result (λ r. Stands (state self.new) (at r)
+            (λ e. pos (64 * e.world.w))) }
         ensures cause { IfErr result (Cause (state self.old) (state self.new) (Fits (state self.new)
             (λ e. pos (64 * e.world.w) ∷ []))) }
         ensures counted { IfErr result (IsCounted counts (state self.old) (state self.new)) }
@@ -98,7 +100,8 @@ pub trait Calc {
     fn height(&mut self) -> Result<Self::Num, Halt>
         ensures grows { Grows (state self.old) (state self.new) }
         ensures worlds { KeepsWorlds (state self.old) (state self.new) }
-        ensures value { IfOk result (λ r. Stands (state self.new) (at r) (λ e. pos (64 * e.world.h))) }
+        ensures value { IfOk result (λ r. Stands (state self.new) (at r)
+            (λ e. pos (64 * e.world.h))) }
         ensures cause { IfErr result (Cause (state self.old) (state self.new) (Fits (state self.new)
             (λ e. pos (64 * e.world.h) ∷ []))) }
         ensures counted { IfErr result (IsCounted counts (state self.old) (state self.new)) }
@@ -108,7 +111,8 @@ pub trait Calc {
     fn size(&mut self) -> Result<Self::Num, Halt>
         ensures grows { Grows (state self.old) (state self.new) }
         ensures worlds { KeepsWorlds (state self.old) (state self.new) }
-        ensures value { IfOk result (λ r. Stands (state self.new) (at r) (λ e. pos (64 * e.world.s))) }
+        ensures value { IfOk result (λ r. Stands (state self.new) (at r)
+            (λ e. pos (64 * e.world.s))) }
         ensures cause { IfErr result (Cause (state self.old) (state self.new) (Fits (state self.new)
             (λ e. pos (64 * e.world.s) ∷ []))) }
         ensures counted { IfErr result (IsCounted counts (state self.old) (state self.new)) }
@@ -128,7 +132,8 @@ pub trait Calc {
     fn add(&mut self, a: &Self::Num, b: &Self::Num) -> Result<Self::Num, Halt>
         ensures grows { Grows (state self.old) (state self.new) }
         ensures worlds { KeepsWorlds (state self.old) (state self.new) }
-        ensures value { IfOk result (λ r. Stands (state self.new) (at r) (λ e. at a.now e +ℤ at b.now e)) }
+        ensures value { IfOk result (λ r. Stands (state self.new) (at r)
+            (λ e. at a.now e +ℤ at b.now e)) }
         ensures cause { IfErr result (Cause (state self.old) (state self.new) (Fits (state self.new)
             (λ e. (at a.now e +ℤ at b.now e) ∷ []))) }
         ensures counted { IfErr result (IsCounted counts (state self.old) (state self.new)) }
@@ -138,7 +143,8 @@ pub trait Calc {
     fn sub(&mut self, a: &Self::Num, b: &Self::Num) -> Result<Self::Num, Halt>
         ensures grows { Grows (state self.old) (state self.new) }
         ensures worlds { KeepsWorlds (state self.old) (state self.new) }
-        ensures value { IfOk result (λ r. Stands (state self.new) (at r) (λ e. at a.now e -ℤ at b.now e)) }
+        ensures value { IfOk result (λ r. Stands (state self.new) (at r)
+            (λ e. at a.now e -ℤ at b.now e)) }
         ensures cause { IfErr result (Cause (state self.old) (state self.new) (Fits (state self.new)
             (λ e. (at a.now e -ℤ at b.now e) ∷ []))) }
         ensures counted { IfErr result (IsCounted counts (state self.old) (state self.new)) }
@@ -160,15 +166,15 @@ pub trait Calc {
     /// answer is to be left open, else errors as those of `lit`.
     fn le(&mut self, a: &Self::Num, b: &Self::Num) -> Result<bool, Halt>
         ensures grows { Grows (state self.old) (state self.new) }
-        ensures value { IfOk result (λ r. (e : Reading) → IsTrue ((state self.new).is_open e)
-            → r ≡ int_le (at a.now e) (at b.now e)) }
+        ensures value { IfOk result (λ r. WhereOpen (state self.new).is_open
+            (λ e. r ≡ int_le (at a.now e) (at b.now e))) }
         ensures cause { IfErr result (Cause (state self.old) (state self.new) ⊤) };
 
     /// The same as `le`, but what earlier answers tell is not asked again.
     fn at_most(&mut self, a: &Self::Num, b: &Self::Num) -> Result<bool, Halt>
         ensures grows { Grows (state self.old) (state self.new) }
-        ensures value { IfOk result (λ r. (e : Reading) → IsTrue ((state self.new).is_open e)
-            → r ≡ int_le (at a.now e) (at b.now e)) }
+        ensures value { IfOk result (λ r. WhereOpen (state self.new).is_open
+            (λ e. r ≡ int_le (at a.now e) (at b.now e))) }
         ensures cause { IfErr result (Cause (state self.old) (state self.new) ⊤) }
     {
         self.le(a, b)

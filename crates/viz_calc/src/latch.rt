@@ -25,7 +25,8 @@ impl<'a, C: Calc> Latch<'a, C> {
 
     /// The number, or from the first halt on a blank.
     fn keep(&mut self, answer: Result<C::Num, Halt>) -> C::Num
-        requires { IfErr answer (λ h. IsTrue (is_told C.counts (C.state self.old.calc.now) (Some h))) }
+        requires { IfErr answer (λ h. IsTrue
+            (is_told C.counts (C.state self.old.calc.now) (Some h))) }
         ensures lender { self.new.calc.ghost_name ≡ self.old.calc.ghost_name }
         ensures now { self.new.calc.now ≡ self.old.calc.now }
         ensures ok { IfOk answer (λ n. result ≡ n) }
@@ -47,7 +48,8 @@ impl<'a, C: Calc> Latch<'a, C> {
         ensures ok { IfOk result (λ r. r ≡ value) }
         ensures running { IfOk result (λ r. self.entry.halt ≡ None) }
         ensures halt { IfErr result (λ h. self.entry.halt ≡ Some h) }
-        ensures told { IfErr result (λ h. IsTrue (is_told C.counts (C.state self.exit.0.now) (Some h))) }
+        ensures told { IfErr result (λ h. IsTrue
+            (is_told C.counts (C.state self.exit.0.now) (Some h))) }
     {
         match self.halt {
             None => Ok(value),

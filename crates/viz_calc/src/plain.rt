@@ -1,9 +1,8 @@
 ghost use Rattle.std.specs.Prelude.{◌≡◌, ◌*◌, ◌^◌, ◌≤◌, ◌+ℤ◌, ◌-ℤ◌, ◌*ℤ◌, pos, Ok, false, ⊤, IsTrue, IfOk, IfErr, [], ◌∷◌};
 ghost use Rattle.std.specs.Int.{int_div_euclid};
 ghost use Rattle.std.specs.Int.RustNames.{int_le};
-ghost use Rattle.viz_calc.specs.World.{Reading};
 ghost use Rattle.viz_base.specs.declared.worlds.World.{World};
-ghost use Rattle.viz_calc.specs.State.{Stands, Grows, KeepsWorlds, IsOpenWorld, Fits, Cause, CauseButMem, IsCounted, IsDecided};
+ghost use Rattle.viz_calc.specs.State.{Stands, Grows, KeepsWorlds, IsOpenWorld, Fits, Cause, CauseButMem, IsCounted, IsDecided, WhereOpen};
 ghost use Rattle.viz_calc.specs.Plain.{plain_state, plain_reading, fitted};
 ghost use Rattle.viz_calc.specs.declared.calc.Halt.TheVariants.{Mem};
 
@@ -92,9 +91,10 @@ impl Calc for Plain {
         ensures grows { Grows (plain_state self.old.world) (plain_state self.new.world) }
         ensures worlds { KeepsWorlds (plain_state self.old.world) (plain_state self.new.world) }
         ensures value { IfOk result (λ r. Stands (plain_state self.new.world) (λ e. r) (λ e. v)) }
-        ensures cause { IfErr result (Cause (plain_state self.old.world) (plain_state self.new.world)
-            (Fits (plain_state self.new.world) (λ e. v ∷ []))) }
-        ensures counted { IfErr result (IsCounted false (plain_state self.old.world) (plain_state self.new.world)) }
+        ensures cause { IfErr result (Cause (plain_state self.old.world)
+            (plain_state self.new.world) (Fits (plain_state self.new.world) (λ e. v ∷ []))) }
+        ensures counted { IfErr result
+            (IsCounted false (plain_state self.old.world) (plain_state self.new.world)) }
         ensures decided { IsDecided result }
         ensures exact { result ≡ fitted v }
         ensures same { self.new ≡ self.old }
@@ -105,10 +105,13 @@ impl Calc for Plain {
     fn width(&mut self) -> Result<i128, Halt>
         ensures grows { Grows (plain_state self.old.world) (plain_state self.new.world) }
         ensures worlds { KeepsWorlds (plain_state self.old.world) (plain_state self.new.world) }
-        ensures value { IfOk result (λ r. Stands (plain_state self.new.world) (λ e. r) (λ e. pos (64 * e.world.w))) }
-        ensures cause { IfErr result (Cause (plain_state self.old.world) (plain_state self.new.world)
-            (Fits (plain_state self.new.world) (λ e. pos (64 * e.world.w) ∷ []))) }
-        ensures counted { IfErr result (IsCounted false (plain_state self.old.world) (plain_state self.new.world)) }
+        ensures value { IfOk result (λ r. Stands (plain_state self.new.world) (λ e. r)
+            (λ e. pos (64 * e.world.w))) }
+        ensures cause { IfErr result (Cause (plain_state self.old.world)
+            (plain_state self.new.world) (Fits (plain_state self.new.world)
+            (λ e. pos (64 * e.world.w) ∷ []))) }
+        ensures counted { IfErr result
+            (IsCounted false (plain_state self.old.world) (plain_state self.new.world)) }
         ensures decided { IsDecided result }
         ensures exact { result ≡ Ok (pos (64 * self.old.world.w)) }
         ensures same { self.new ≡ self.old }
@@ -119,10 +122,13 @@ impl Calc for Plain {
     fn height(&mut self) -> Result<i128, Halt>
         ensures grows { Grows (plain_state self.old.world) (plain_state self.new.world) }
         ensures worlds { KeepsWorlds (plain_state self.old.world) (plain_state self.new.world) }
-        ensures value { IfOk result (λ r. Stands (plain_state self.new.world) (λ e. r) (λ e. pos (64 * e.world.h))) }
-        ensures cause { IfErr result (Cause (plain_state self.old.world) (plain_state self.new.world)
-            (Fits (plain_state self.new.world) (λ e. pos (64 * e.world.h) ∷ []))) }
-        ensures counted { IfErr result (IsCounted false (plain_state self.old.world) (plain_state self.new.world)) }
+        ensures value { IfOk result (λ r. Stands (plain_state self.new.world) (λ e. r)
+            (λ e. pos (64 * e.world.h))) }
+        ensures cause { IfErr result (Cause (plain_state self.old.world)
+            (plain_state self.new.world) (Fits (plain_state self.new.world)
+            (λ e. pos (64 * e.world.h) ∷ []))) }
+        ensures counted { IfErr result
+            (IsCounted false (plain_state self.old.world) (plain_state self.new.world)) }
         ensures decided { IsDecided result }
         ensures exact { result ≡ Ok (pos (64 * self.old.world.h)) }
         ensures same { self.new ≡ self.old }
@@ -133,10 +139,13 @@ impl Calc for Plain {
     fn size(&mut self) -> Result<i128, Halt>
         ensures grows { Grows (plain_state self.old.world) (plain_state self.new.world) }
         ensures worlds { KeepsWorlds (plain_state self.old.world) (plain_state self.new.world) }
-        ensures value { IfOk result (λ r. Stands (plain_state self.new.world) (λ e. r) (λ e. pos (64 * e.world.s))) }
-        ensures cause { IfErr result (Cause (plain_state self.old.world) (plain_state self.new.world)
-            (Fits (plain_state self.new.world) (λ e. pos (64 * e.world.s) ∷ []))) }
-        ensures counted { IfErr result (IsCounted false (plain_state self.old.world) (plain_state self.new.world)) }
+        ensures value { IfOk result (λ r. Stands (plain_state self.new.world) (λ e. r)
+            (λ e. pos (64 * e.world.s))) }
+        ensures cause { IfErr result (Cause (plain_state self.old.world)
+            (plain_state self.new.world) (Fits (plain_state self.new.world)
+            (λ e. pos (64 * e.world.s) ∷ []))) }
+        ensures counted { IfErr result
+            (IsCounted false (plain_state self.old.world) (plain_state self.new.world)) }
         ensures decided { IsDecided result }
         ensures exact { result ≡ Ok (pos (64 * self.old.world.s)) }
         ensures same { self.new ≡ self.old }
@@ -147,10 +156,12 @@ impl Calc for Plain {
     fn copy(&mut self, a: &i128) -> Result<i128, Halt>
         ensures grows { Grows (plain_state self.old.world) (plain_state self.new.world) }
         ensures worlds { KeepsWorlds (plain_state self.old.world) (plain_state self.new.world) }
-        ensures value { IfOk result (λ r. Stands (plain_state self.new.world) (λ e. r) (λ e. a.now)) }
-        ensures cause { IfErr result (Cause (plain_state self.old.world) (plain_state self.new.world)
-            (Fits (plain_state self.new.world) (λ e. a.now ∷ []))) }
-        ensures counted { IfErr result (IsCounted false (plain_state self.old.world) (plain_state self.new.world)) }
+        ensures value { IfOk result (λ r. Stands (plain_state self.new.world) (λ e. r)
+            (λ e. a.now)) }
+        ensures cause { IfErr result (Cause (plain_state self.old.world)
+            (plain_state self.new.world) (Fits (plain_state self.new.world) (λ e. a.now ∷ []))) }
+        ensures counted { IfErr result
+            (IsCounted false (plain_state self.old.world) (plain_state self.new.world)) }
         ensures decided { IsDecided result }
         ensures exact { result ≡ fitted a.now }
         ensures same { self.new ≡ self.old }
@@ -161,10 +172,13 @@ impl Calc for Plain {
     fn add(&mut self, a: &i128, b: &i128) -> Result<i128, Halt>
         ensures grows { Grows (plain_state self.old.world) (plain_state self.new.world) }
         ensures worlds { KeepsWorlds (plain_state self.old.world) (plain_state self.new.world) }
-        ensures value { IfOk result (λ r. Stands (plain_state self.new.world) (λ e. r) (λ e. a.now +ℤ b.now)) }
-        ensures cause { IfErr result (Cause (plain_state self.old.world) (plain_state self.new.world)
-            (Fits (plain_state self.new.world) (λ e. (a.now +ℤ b.now) ∷ []))) }
-        ensures counted { IfErr result (IsCounted false (plain_state self.old.world) (plain_state self.new.world)) }
+        ensures value { IfOk result (λ r. Stands (plain_state self.new.world) (λ e. r)
+            (λ e. a.now +ℤ b.now)) }
+        ensures cause { IfErr result (Cause (plain_state self.old.world)
+            (plain_state self.new.world) (Fits (plain_state self.new.world)
+            (λ e. (a.now +ℤ b.now) ∷ []))) }
+        ensures counted { IfErr result
+            (IsCounted false (plain_state self.old.world) (plain_state self.new.world)) }
         ensures decided { IsDecided result }
         ensures exact { result ≡ fitted (a.now +ℤ b.now) }
         ensures same { self.new ≡ self.old }
@@ -175,10 +189,13 @@ impl Calc for Plain {
     fn sub(&mut self, a: &i128, b: &i128) -> Result<i128, Halt>
         ensures grows { Grows (plain_state self.old.world) (plain_state self.new.world) }
         ensures worlds { KeepsWorlds (plain_state self.old.world) (plain_state self.new.world) }
-        ensures value { IfOk result (λ r. Stands (plain_state self.new.world) (λ e. r) (λ e. a.now -ℤ b.now)) }
-        ensures cause { IfErr result (Cause (plain_state self.old.world) (plain_state self.new.world)
-            (Fits (plain_state self.new.world) (λ e. (a.now -ℤ b.now) ∷ []))) }
-        ensures counted { IfErr result (IsCounted false (plain_state self.old.world) (plain_state self.new.world)) }
+        ensures value { IfOk result (λ r. Stands (plain_state self.new.world) (λ e. r)
+            (λ e. a.now -ℤ b.now)) }
+        ensures cause { IfErr result (Cause (plain_state self.old.world)
+            (plain_state self.new.world) (Fits (plain_state self.new.world)
+            (λ e. (a.now -ℤ b.now) ∷ []))) }
+        ensures counted { IfErr result
+            (IsCounted false (plain_state self.old.world) (plain_state self.new.world)) }
         ensures decided { IsDecided result }
         ensures exact { result ≡ fitted (a.now -ℤ b.now) }
         ensures same { self.new ≡ self.old }
@@ -192,9 +209,11 @@ impl Calc for Plain {
         ensures worlds { KeepsWorlds (plain_state self.old.world) (plain_state self.new.world) }
         ensures value { IfOk result (λ r. Stands (plain_state self.new.world) (λ e. r)
             (λ e. int_div_euclid (num *ℤ a.now) (pos den))) }
-        ensures cause { IfErr result (Cause (plain_state self.old.world) (plain_state self.new.world)
-            (Fits (plain_state self.new.world) (λ e. int_div_euclid (num *ℤ a.now) (pos den) ∷ []))) }
-        ensures counted { IfErr result (IsCounted false (plain_state self.old.world) (plain_state self.new.world)) }
+        ensures cause { IfErr result (Cause (plain_state self.old.world)
+            (plain_state self.new.world) (Fits (plain_state self.new.world)
+            (λ e. int_div_euclid (num *ℤ a.now) (pos den) ∷ []))) }
+        ensures counted { IfErr result
+            (IsCounted false (plain_state self.old.world) (plain_state self.new.world)) }
         ensures decided { IsDecided result }
         ensures exact { result ≡ fitted (int_div_euclid (num *ℤ a.now) (pos den)) }
         ensures same { self.new ≡ self.old }
@@ -204,9 +223,10 @@ impl Calc for Plain {
 
     fn le(&mut self, a: &i128, b: &i128) -> Result<bool, Halt>
         ensures grows { Grows (plain_state self.old.world) (plain_state self.new.world) }
-        ensures value { IfOk result (λ r. (e : Reading) → IsTrue ((plain_state self.new.world).is_open e)
-            → r ≡ int_le a.now b.now) }
-        ensures cause { IfErr result (Cause (plain_state self.old.world) (plain_state self.new.world) ⊤) }
+        ensures value { IfOk result (λ r. WhereOpen (plain_state self.new.world).is_open
+            (λ e. r ≡ int_le a.now b.now)) }
+        ensures cause { IfErr result (Cause (plain_state self.old.world)
+            (plain_state self.new.world) ⊤) }
         ensures exact { result ≡ Ok (int_le a.now b.now) }
         ensures same { self.new ≡ self.old }
     {
@@ -223,7 +243,7 @@ impl Calc for Plain {
 /// The reading of its world that gives each floor term 0 is open.
 pub fn plain_is_at_one_world(calc: &Plain)
     ensures is_open { IsTrue ((plain_state calc.now.world).is_open (plain_reading calc.now.world)) }
-    ensures alone { (e : Reading) → IsTrue ((plain_state calc.now.world).is_open e) → e.world ≡ calc.now.world }
+    ensures alone { WhereOpen (plain_state calc.now.world).is_open (λ e. e.world ≡ calc.now.world) }
 {}
 
 /// It keeps its world, which is open.

@@ -1,4 +1,5 @@
-ghost use Rattle.std.specs.Prelude.{◌≡◌, false, ◌≤◌, ℕ, ◌*◌, ℤ, ⊤, pos, ◌+ℤ◌, ◌-ℤ◌, ◌*ℤ◌, IsTrue, [], ◌∷◌, Some, None, is_some};
+ghost use Rattle.std.specs.Prelude.{◌≡◌, false, ◌≤◌, ℕ, ◌*◌, ℤ, ⊤, pos, ◌+ℤ◌, ◌-ℤ◌, ◌*ℤ◌, [], ◌∷◌, Some, None, is_some};
+ghost use Rattle.viz_calc.specs.State.{WhereOpen};
 ghost use Rattle.std.specs.Int.{int_div_euclid};
 ghost use Rattle.std.specs.Int.RustNames.{int_le};
 ghost use Rattle.viz_calc.specs.World.{Reading};
@@ -26,25 +27,29 @@ pub trait Steady {
     fn width(&mut self) -> Self::Num
         ensures goes { Goes (run self.old) (run self.new) }
         ensures value { Stands (run self.new) (at result) (λ e. pos (64 * e.world.w)) }
-        ensures cause { Blames (run self.old) (run self.new) (Fits (run self.old) (λ e. pos (64 * e.world.w) ∷ [])) };
+        ensures cause { Blames (run self.old) (run self.new) (Fits (run self.old)
+            (λ e. pos (64 * e.world.w) ∷ [])) };
 
     /// The viewport's height, in 1/64 px.
     fn height(&mut self) -> Self::Num
         ensures goes { Goes (run self.old) (run self.new) }
         ensures value { Stands (run self.new) (at result) (λ e. pos (64 * e.world.h)) }
-        ensures cause { Blames (run self.old) (run self.new) (Fits (run self.old) (λ e. pos (64 * e.world.h) ∷ [])) };
+        ensures cause { Blames (run self.old) (run self.new) (Fits (run self.old)
+            (λ e. pos (64 * e.world.h) ∷ [])) };
 
     /// The default font size, in 1/64 px.
     fn size(&mut self) -> Self::Num
         ensures goes { Goes (run self.old) (run self.new) }
         ensures value { Stands (run self.new) (at result) (λ e. pos (64 * e.world.s)) }
-        ensures cause { Blames (run self.old) (run self.new) (Fits (run self.old) (λ e. pos (64 * e.world.s) ∷ [])) };
+        ensures cause { Blames (run self.old) (run self.new) (Fits (run self.old)
+            (λ e. pos (64 * e.world.s) ∷ [])) };
 
     /// The same number again.
     fn copy(&mut self, a: &Self::Num) -> Self::Num
         ensures goes { Goes (run self.old) (run self.new) }
         ensures value { Stands (run self.new) (at result) (at a.now) }
-        ensures cause { Blames (run self.old) (run self.new) (Fits (run self.old) (λ e. at a.now e ∷ [])) };
+        ensures cause { Blames (run self.old) (run self.new) (Fits (run self.old)
+            (λ e. at a.now e ∷ [])) };
 
     /// The sum.
     fn add(&mut self, a: &Self::Num, b: &Self::Num) -> Self::Num
@@ -64,14 +69,16 @@ pub trait Steady {
     fn scale_floor(&mut self, a: &Self::Num, num: i64, den: u64) -> Self::Num
         requires { 1 ≤ den }
         ensures goes { Goes (run self.old) (run self.new) }
-        ensures value { Stands (run self.new) (at result) (λ e. int_div_euclid (num *ℤ at a.now e) (pos den)) }
+        ensures value { Stands (run self.new) (at result)
+            (λ e. int_div_euclid (num *ℤ at a.now e) (pos den)) }
         ensures cause { Blames (run self.old) (run self.new) (Fits (run self.old)
             (λ e. int_div_euclid (num *ℤ at a.now e) (pos den) ∷ [])) };
 
     /// Whether `a` is at most `b`; it may close worlds where the answer is another.
     fn le(&mut self, a: &Self::Num, b: &Self::Num) -> bool
         ensures goes { Goes (run self.old) (run self.new) }
-        ensures value { (e : Reading) → IsTrue ((run self.new).is_open e) → result ≡ int_le (at a.now e) (at b.now e) }
+        ensures value { WhereOpen (run self.new).is_open
+            (λ e. result ≡ int_le (at a.now e) (at b.now e)) }
         ensures cause { Blames (run self.old) (run self.new) ⊤ };
 
     /// Whether it is halted. From then on a call may leave its arguments as they are.

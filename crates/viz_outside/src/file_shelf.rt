@@ -55,7 +55,8 @@ pub(crate) fn read_within<F: Read + Drop>(
     cap: usize,
 ) -> Result<Loaded, ShelfFault>
     ensures capped { IfOk result (λ loaded. length (bytes_of loaded) ≤ cap) }
-    ensures told { IfOk result (λ loaded. IfSome (F.remaining file) (λ held. loaded ≡ loaded_of cap held)) }
+    ensures told { IfOk result (λ loaded. IfSome (F.remaining file)
+        (λ held. loaded ≡ loaded_of cap held)) }
 {
     let mut bytes = Vec::new(alloc);
     let mut front = file.take((cap as u64).saturating_add(1));
@@ -85,8 +86,10 @@ fn read_opened<F: Read + Drop>(
     ensures capped { IfOk result (λ loaded. length (bytes_of loaded) ≤ cap) }
     ensures told { IfOk opened (λ file. IfOk result (λ loaded.
         IfSome (F.remaining file) (λ held. loaded ≡ loaded_of cap held))) }
-    ensures memory { IfErr opened (λ error. error_kind error ≡ ErrorKind.OutOfMemory → result ≡ Err Mem) }
-    ensures failed { IfErr opened (λ error. error_kind error ≢ ErrorKind.OutOfMemory → result ≡ Err Failed) }
+    ensures memory { IfErr opened (λ error. error_kind error ≡ ErrorKind.OutOfMemory
+        → result ≡ Err Mem) }
+    ensures failed { IfErr opened (λ error. error_kind error ≢ ErrorKind.OutOfMemory
+        → result ≡ Err Failed) }
 {
     match opened {
         Ok(file) => read_within(alloc, file, cap),

@@ -95,8 +95,10 @@ impl Shelf for MemShelf {
         ensures after { self.new ≡ after_load self.old name.now cap }
         ensures counts { self.old.faults ≤ self.new.faults }
         ensures sure_loads { IsTrue (is_sure self.old name.now) → ¬ IsErrOf result Failed }
-        ensures sure_counts { IsTrue (is_sure self.old name.now) → self.new.faults ≡ self.old.faults }
-        ensures stays_sure { (other : List ℕ) → IsTrue (is_sure self.old other) → IsTrue (is_sure self.new other) }
+        ensures sure_counts { IsTrue (is_sure self.old name.now)
+            → self.new.faults ≡ self.old.faults }
+        ensures stays_sure { (other : List ℕ) → IsTrue (is_sure self.old other)
+            → IsTrue (is_sure self.new other) }
     {
         let number = self.calls;
         let answer = call(&self.files, self.fails.as_slice(), number, name, cap);

@@ -72,7 +72,8 @@ impl Sink for MemSink {
         ensures answer { result ≡ answer_of self.old bytes.now }
         ensures after { self.new ≡ after_write self.old bytes.now }
         ensures counts { self.old.faults ≤ self.new.faults }
-        ensures stuck { result ≡ Ok 0 → 0 < length bytes.now → Rose self.old.faults self.new.faults }
+        ensures stuck { result ≡ Ok 0 → 0 < length bytes.now
+            → Rose self.old.faults self.new.faults }
     {
         let number = self.calls;
         self.calls = number.saturating_add(1);

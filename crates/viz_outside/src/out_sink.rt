@@ -33,7 +33,8 @@ impl<R> OutSink<R> {
 #[tactic(auto, using(crate::proofs::ByteLemmas::appends_nothing))]
 fn write_some<W: Write>(to: &mut W, bytes: &[u8]) -> Option<usize>
     ensures within { IfSome result (λ taken. taken ≤ length bytes.now) }
-    ensures written { Appends (W.contents to.old) (W.contents to.new) (take (unwrap_or result 0) bytes.now) }
+    ensures written { Appends (W.contents to.old) (W.contents to.new)
+        (take (unwrap_or result 0) bytes.now) }
 {
     match to.write(bytes) {
         Ok(0) => None,

@@ -85,5 +85,6 @@ pub trait Shelf {
         ensures failed { IsErrOf result Failed → Rose (faults self.old) (faults self.new) }
         ensures sure_loads { IsTrue (sure self.old name.now) → ¬ IsErrOf result Failed }
         ensures sure_counts { IsTrue (sure self.old name.now) → faults self.new ≡ faults self.old }
-        ensures stays_sure { (other : List ℕ) → IsTrue (sure self.old other) → IsTrue (sure self.new other) };
+        ensures stays_sure { (other : List ℕ) → IsTrue (sure self.old other)
+            → IsTrue (sure self.new other) };
 }

@@ -20,11 +20,13 @@ pub trait Sink {
     /// Takes a prefix of the piece and says how long it is. It takes no memory.
     fn write(&mut self, bytes: &[u8]) -> Result<usize, SinkFailed>
         ensures within { IfOk result (λ taken. taken ≤ length bytes.now) }
-        ensures grows { IfOk result (λ taken. written self.new ≡ grown (written self.old) (take taken bytes.now)) }
+        ensures grows { IfOk result (λ taken. written self.new
+            ≡ grown (written self.old) (take taken bytes.now)) }
         ensures kept { OnErr result (written self.new ≡ written self.old) }
         ensures counts { faults self.old ≤ faults self.new }
         ensures failed { OnErr result (Rose (faults self.old) (faults self.new)) }
-        ensures stuck { result ≡ Ok 0 → 0 < length bytes.now → Rose (faults self.old) (faults self.new) };
+        ensures stuck { result ≡ Ok 0 → 0 < length bytes.now
+            → Rose (faults self.old) (faults self.new) };
 }
 
 /// Writes all the bytes, in as many calls as the sink wants, and none where there are none.

@@ -10,10 +10,12 @@ use viz_base::Mem;
 /// The words after the program's name, of what the system gives as its arguments.
 pub fn words_of(alloc: Global, args: io::Result<Args>) -> Result<Vec<String>, Mem>
     // They are all the arguments but the first.
-    ensures words { IfOk args (λ all. IfOk result (λ words. words.items ≡ drop 1 (into_iter_items all))) }
+    ensures words { IfOk args (λ all. IfOk result
+        (λ words. words.items ≡ drop 1 (into_iter_items all))) }
     // Where an argument is no text there are none, and any other fault is want of memory.
     ensures none { IfErr args (λ _. IfOk result (λ words. words.items ≡ [])) }
-    ensures no_text { IfErr args (λ error. IsOk result ↔ (error_kind error ≡ ErrorKind.InvalidData)) }
+    ensures no_text { IfErr args (λ error. IsOk result
+        ↔ (error_kind error ≡ ErrorKind.InvalidData)) }
 {
     match args {
         Ok(all) => Ok(behind_first(alloc, all)?),

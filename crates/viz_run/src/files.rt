@@ -27,11 +27,14 @@ fn load_jobs<F: Shelf>(alloc: Global, name: &str, shelf: &mut F) -> Result<JobsR
         → LoadsJob (shelved F.files F.loads shelf.old shelf.new) name.now (Err Failed) }
     ensures wanting { IsErrOf result ShelfFault.Mem → (answer : Result Loaded ShelfFault)
         × LoadsJob (shelved F.files F.loads shelf.old shelf.new) name.now answer }
-    ensures failed { IsErrOf result ShelfFault.Failed → Rose (F.faults shelf.old) (F.faults shelf.new) }
+    ensures failed { IsErrOf result ShelfFault.Failed
+        → Rose (F.faults shelf.old) (F.faults shelf.new) }
     ensures sure { IsTrue (F.sure shelf.old name.now) → ¬ IsErrOf result ShelfFault.Failed }
-    ensures sure_counts { IsTrue (F.sure shelf.old name.now) → F.faults shelf.new ≡ F.faults shelf.old }
+    ensures sure_counts { IsTrue (F.sure shelf.old name.now)
+        → F.faults shelf.new ≡ F.faults shelf.old }
     ensures counts { F.faults shelf.old ≤ F.faults shelf.new }
-    ensures stays_sure { (other : List ℕ) → IsTrue (F.sure shelf.old other) → IsTrue (F.sure shelf.new other) }
+    ensures stays_sure { (other : List ℕ) → IsTrue (F.sure shelf.old other)
+        → IsTrue (F.sure shelf.new other) }
 {
     match shelf.load(name, JOB_MOST) {
         Ok(Loaded::Whole(bytes)) => Ok(read_jobs(alloc, bytes.as_slice())?),
@@ -49,12 +52,15 @@ fn reply_by_file<F: Shelf>(
 ) -> Result<Reply, ShelfFault>
     requires { length jobs.now ≤ 12 }
     ensures reply { IfOk result (λ r. (bytes : _)
-        × IsGiven (shelved F.files F.loads shelf.old shelf.new) name.now cert_most shelf.old shelf.new bytes
+        × IsGiven
+        (shelved F.files F.loads shelf.old shelf.new) name.now cert_most shelf.old shelf.new bytes
         × IsChecked jobs.now bytes r.answer r.output.items) }
-    ensures unread { IsErrOf result ShelfFault.Failed → F.loads shelf.old name.now cert_most (Err Failed) shelf.new }
+    ensures unread { IsErrOf result ShelfFault.Failed
+        → F.loads shelf.old name.now cert_most (Err Failed) shelf.new }
     ensures wanting { IsErrOf result ShelfFault.Mem → (answer : Result Loaded ShelfFault)
         × F.loads shelf.old name.now cert_most answer shelf.new }
-    ensures failed { IsErrOf result ShelfFault.Failed → Rose (F.faults shelf.old) (F.faults shelf.new) }
+    ensures failed { IsErrOf result ShelfFault.Failed
+        → Rose (F.faults shelf.old) (F.faults shelf.new) }
     ensures sure { IsTrue (F.sure shelf.old name.now) → ¬ IsErrOf result ShelfFault.Failed }
     ensures counts { F.faults shelf.old ≤ F.faults shelf.new }
 {
@@ -101,7 +107,8 @@ fn reply_of_file<F: Shelf>(
         × LoadsJob (shelved F.files F.loads shelf.old shelf.new) name.now answer }
     ensures sure { IsTrue (F.sure shelf.old name.now) → ¬ IsErrOf result (NoReply.Unread File.Job) }
     ensures one_file { ¬ IsErrOf result (NoReply.Unread File.Certificate) }
-    ensures sure_counts { IsTrue (F.sure shelf.old name.now) → F.faults shelf.new ≡ F.faults shelf.old }
+    ensures sure_counts { IsTrue (F.sure shelf.old name.now)
+        → F.faults shelf.new ≡ F.faults shelf.old }
 {
     match shelf.load(name, JOB_MOST) {
         Ok(Loaded::Whole(bytes)) => Ok(reply_to(alloc, bytes.as_slice(), question)?),
@@ -118,8 +125,8 @@ fn check_of_files<F: Shelf>(
     cert: &str,
     shelf: &mut F,
 ) -> Result<Reply, NoReply>
-    ensures reply { IfOk result (λ r.
-        IsCheckOfFiles (shelved F.files F.loads shelf.old shelf.new) job.now cert.now r.answer r.output.items) }
+    ensures reply { IfOk result (λ r. IsCheckOfFiles
+        (shelved F.files F.loads shelf.old shelf.new) job.now cert.now r.answer r.output.items) }
     ensures job_unread { IsErrOf result (NoReply.Unread File.Job)
         → LoadsJob (shelved F.files F.loads shelf.old shelf.new) job.now (Err Failed)
         × Rose (F.faults shelf.old) (F.faults shelf.new) }
@@ -129,8 +136,10 @@ fn check_of_files<F: Shelf>(
     ensures wanting { IsErrOf result NoReply.Mem → (answer : Result Loaded ShelfFault)
         × (LoadsJob (shelved F.files F.loads shelf.old shelf.new) job.now answer
         ⊎ LoadsBoth (shelved F.files F.loads shelf.old shelf.new) job.now cert.now answer) }
-    ensures job_sure { IsTrue (F.sure shelf.old job.now) → ¬ IsErrOf result (NoReply.Unread File.Job) }
-    ensures cert_sure { IsTrue (F.sure shelf.old cert.now) → ¬ IsErrOf result (NoReply.Unread File.Certificate) }
+    ensures job_sure { IsTrue (F.sure shelf.old job.now)
+        → ¬ IsErrOf result (NoReply.Unread File.Job) }
+    ensures cert_sure { IsTrue (F.sure shelf.old cert.now)
+        → ¬ IsErrOf result (NoReply.Unread File.Certificate) }
     ensures unlooked { IsTrue (F.sure shelf.old job.now) → IfOk result (λ r.
         r.answer ≡ Answer.JobRefused → F.faults shelf.new ≡ F.faults shelf.old) }
 {
@@ -156,8 +165,8 @@ pub fn reply_over<F: Shelf>(
     command: Command,
     shelf: &mut F,
 ) -> Result<Reply, NoReply>
-    ensures reply { IfOk result (λ r.
-        IsReplied (shelved F.files F.loads shelf.old shelf.new) command.entry r.answer r.output.items) }
+    ensures reply { IfOk result (λ r. IsReplied
+        (shelved F.files F.loads shelf.old shelf.new) command.entry r.answer r.output.items) }
     ensures job_unread { IsErrOf result (NoReply.Unread File.Job)
         → IsUnread (shelved F.files F.loads shelf.old shelf.new) command.entry File.Job
         × Rose (F.faults shelf.old) (F.faults shelf.new) }
@@ -166,7 +175,8 @@ pub fn reply_over<F: Shelf>(
         × Rose (F.faults shelf.old) (F.faults shelf.new) }
     ensures wanting { IsErrOf result NoReply.Mem
         → IsLoaded (shelved F.files F.loads shelf.old shelf.new) command.entry }
-    ensures job_sure { IsSureJob (F.sure shelf.old) command.entry → ¬ IsErrOf result (NoReply.Unread File.Job) }
+    ensures job_sure { IsSureJob (F.sure shelf.old) command.entry
+        → ¬ IsErrOf result (NoReply.Unread File.Job) }
     ensures cert_sure { IsSureCert (F.sure shelf.old) command.entry
         → ¬ IsErrOf result (NoReply.Unread File.Certificate) }
     ensures unloaded { IsFileless command.entry → shelf.new ≡ shelf.old }

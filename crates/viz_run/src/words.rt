@@ -40,7 +40,8 @@ pub enum Command<'a> {
 
 /// The number that a word spells in decimal, without sign or leading zero. It takes no memory.
 pub fn number_of(word: &str) -> Option<u64>
-    ensures { MatchOption result ((n : ℕ) → n < 2 ^ 64 → word.now ≢ decimal n) (λ n. word.now ≡ decimal n) }
+    ensures { MatchOption result ((n : ℕ) → n < 2 ^ 64 → word.now ≢ decimal n)
+        (λ n. word.now ≡ decimal n) }
 {
     match word.parse::<u64>() {
         Ok(number) => {
@@ -79,7 +80,8 @@ fn number_to(word: &str, most: u32) -> Option<u32>
 
 /// The screen without a height that two words name.
 fn screen_of(width: &str, size: &str) -> Option<Screen>
-    ensures { MatchOption result (AreNoScreen (width.now ∷ size.now ∷ [])) (AreScreen (width.now ∷ size.now ∷ [])) }
+    ensures { MatchOption result (AreNoScreen (width.now ∷ size.now ∷ []))
+        (AreScreen (width.now ∷ size.now ∷ [])) }
 {
     let w = number_to(width, MOST_PIXELS)?;
     let s = number_to(size, MOST_SIZE)?;
@@ -99,7 +101,8 @@ fn tall_screen_of(width: &str, size: &str, height: &str) -> Option<Screen>
 
 /// How many sections of a generated job a word spells.
 fn sections_of(word: &str) -> Option<Sections>
-    ensures { MatchOption result ((s : Sections) → word.now ≢ decimal s.count) (λ s. word.now ≡ decimal s.count) }
+    ensures { MatchOption result ((s : Sections) → word.now ≢ decimal s.count)
+        (λ s. word.now ≡ decimal s.count) }
 {
     match number_of(word) {
         Some(number) => Sections::within(number),
@@ -123,7 +126,8 @@ fn lay_of<'a>(job: &'a str, width: &str, size: &str) -> Option<Command<'a>>
 
 /// What `lay JOB W S H` asks for.
 fn tall_lay_of<'a>(job: &'a str, width: &str, size: &str, height: &str) -> Option<Command<'a>>
-    ensures { MatchOption result (AskNothing (codes "lay" ∷ job.now ∷ width.now ∷ size.now ∷ height.now ∷ []))
+    ensures { MatchOption result (AskNothing
+        (codes "lay" ∷ job.now ∷ width.now ∷ size.now ∷ height.now ∷ []))
         (Asks (codes "lay" ∷ job.now ∷ width.now ∷ size.now ∷ height.now ∷ [])) }
 {
     if job.is_empty() {
@@ -143,7 +147,8 @@ fn tall_lay_or_none<'a>(
     size: &str,
     height: &str,
 ) -> Option<Command<'a>>
-    ensures { MatchOption result (AskNothing (verb.now ∷ job.now ∷ width.now ∷ size.now ∷ height.now ∷ []))
+    ensures { MatchOption result (AskNothing
+        (verb.now ∷ job.now ∷ width.now ∷ size.now ∷ height.now ∷ []))
         (Asks (verb.now ∷ job.now ∷ width.now ∷ size.now ∷ height.now ∷ [])) }
 {
     if verb == "lay" {
@@ -154,7 +159,8 @@ fn tall_lay_or_none<'a>(
 
 /// What `trial SEED N TURNS` asks for.
 fn trial_of<'a>(seed: &str, sections: &str, turns: &str) -> Option<Command<'a>>
-    ensures { MatchOption result (AskNothing (codes "trial" ∷ seed.now ∷ sections.now ∷ turns.now ∷ []))
+    ensures { MatchOption result (AskNothing
+        (codes "trial" ∷ seed.now ∷ sections.now ∷ turns.now ∷ []))
         (Asks (codes "trial" ∷ seed.now ∷ sections.now ∷ turns.now ∷ [])) }
 {
     let seed = number_of(seed)?;
@@ -240,7 +246,8 @@ fn prove_or_check_or_gen_of<'a>(verb: &str, second: &'a str, third: &'a str) -> 
 
 /// What the words ask for, if they are of a form. It takes no memory.
 pub fn command_of(words: &[String]) -> Option<Command<'_>>
-    ensures { MatchOption result (AskNothing (map string_bytes words.now)) (Asks (map string_bytes words.now)) }
+    ensures { MatchOption result (AskNothing (map string_bytes words.now))
+        (Asks (map string_bytes words.now)) }
 {
     match words {
         [verb, job, width, size, height] => tall_lay_or_none(
