@@ -7,6 +7,7 @@ mod lengths;
 mod reach;
 mod renaming;
 mod survey;
+mod texts;
 mod writer;
 
 pub use entry::with_lemmas;

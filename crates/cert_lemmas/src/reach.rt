@@ -22,15 +22,19 @@ pub struct Reach {
 }
 
 impl Reach {
-    /// What an answer rests on.
-    pub fn of(answer: &Answer) -> Self {
-        let mut reach = Reach {
+    fn none() -> Self {
+        Reach {
             last: 0,
             facts: 0,
             variables: 0,
             lines: 0,
             length: 0,
-        };
+        }
+    }
+
+    /// What an answer rests on.
+    pub fn of(answer: &Answer) -> Self {
+        let mut reach = Reach::none();
         reach.add_variables(&answer.row);
         reach.add_derivation(&answer.why);
         reach
@@ -122,4 +126,11 @@ pub fn short_length(lemma: u64, denied: u32) -> u64 {
     let numbers = number_length(lemma).saturating_add(int_length(i128::from(denied)));
     // The lines are `fact L`, `fact D`, `sum 1:0 1:1` and `closed`.
     numbers.saturating_add(31)
+}
+
+/// The length of a derivation's text.
+pub fn derivation_length(why: &Derivation) -> u64 {
+    let mut reach = Reach::none();
+    reach.add_derivation(why);
+    reach.length
 }
