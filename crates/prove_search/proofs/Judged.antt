@@ -1,5 +1,5 @@
 -- From the checker's verdict to what it proves of a job.
-use Rattle.std.proofs.Common.{ℕ, ◌^◌, arith}
+use Rattle.std.proofs.Common.{ℕ, List, arith}
 use Rattle.viz_base.specs.declared.worlds.World.{World}
 use Rattle.viz_base.specs.declared.jobs.Job.{Job}
 use Rattle.cert_text.specs.declared.certificate.Cert.{Cert}
@@ -11,12 +11,13 @@ use Rattle.cert_check.specs.Verdicts.{IsFault, Passes, IsVerdict}
 use Rattle.prove_search.specs.Outcomes.{IsProof, IsViolation}
 use Rattle.prove_search.specs.steps.Turns.{IsWithinBounds}
 
-pub passes_proves : (job : Job) (turns most : ℕ) (cert : Cert) → IsWithinBounds job turns most cert → Passes job cert → IsProof job turns most cert
-passes_proves job turns most cert bounds passes = record {
+pub passes_proves : (job : Job) (turns most : ℕ) (cert : Cert) (text : List ℕ) → IsWithinBounds job turns most cert text → Passes job cert
+    → IsProof job turns most cert
+passes_proves job turns most cert text bounds passes = record {
   right = passes.right;
   holds = passes.holds;
   few = bounds.few;
-  text = bounds.text;
+  text = text;
   spelled = bounds.spelled;
   short = omega (arith, bounds.short);
   one_grid = bounds.one_grid;

@@ -55,15 +55,19 @@ of_form_1 cert text spelled first =
 
 -- what holds of the bytes that going through a range takes holds of more
 pub with_more : (job : Job) (turns most : ℕ) (outcome : Outcome) → plain_most ≤ most → IsOutcome job turns plain_most outcome → IsOutcome job turns most outcome
-with_more job turns most (Proved cert) le h = record {
-  right = h.right;
-  holds = h.holds;
-  few = h.few;
-  text = h.text;
+with_more job turns most (Proved text) le h = record {
+  cert = h.cert;
+  proof = record {
+    right = h.proof.right;
+    holds = h.proof.holds;
+    few = h.proof.few;
+    text = h.proof.text;
+    spelled = h.proof.spelled;
+    short = omega (arith, h.proof.short, le);
+    one_grid = h.proof.one_grid;
+    form = h.proof.form;
+  };
   spelled = h.spelled;
-  short = omega (arith, h.short, le);
-  one_grid = h.one_grid;
-  form = h.form;
 }
 with_more job turns most (Violated world) le h = h
 with_more job turns most (Undecided part) le h = h

@@ -1,5 +1,5 @@
 -- What the answers of a search mean.
-use Rattle.std.specs.Prelude.{◌≡◌, ◌↔◌, ◌⊎◌, ℕ, ◌+◌, ◌-◌, ◌*◌, ◌^◌, ◌<◌, ◌≤◌, Bool, true, false, ◌||◌, IsTrue, List, length}
+use Rattle.std.specs.Prelude.{◌≡◌, ◌↔◌, ◌⊎◌, ℕ, ◌+◌, ◌-◌, ◌*◌, ◌<◌, ◌≤◌, Bool, true, false, ◌||◌, IsTrue, List, length}
 use Rattle.viz_base.specs.declared.worlds.World.{World}
 use Rattle.viz_base.specs.declared.worlds.Rect.{Rect}
 use Rattle.viz_base.specs.declared.jobs.Job.{Job}
@@ -56,6 +56,12 @@ pub record IsProof (job : Job) (turns most : ℕ) (cert : Cert) : Type 0 where
   pub one_grid : world_count job.range ≤ 64 → cert.root ≡ Grid
   pub form : (cert.form ≡ 2) ↔ IsTrue (has_lemma cert.root)
 
+-- the text is that of such a certificate
+pub record IsProofText (job : Job) (turns most : ℕ) (text : List ℕ) : Type 0 where
+  pub cert : Cert
+  pub proof : IsProof job turns most cert
+  pub spelled : CertText cert text
+
 -- a world of the rectangle at which the formula is false
 pub record IsViolation (job : Job) (r : Rect) (world : World) : Type 0 where
   pub in_range : IsInRange r world
@@ -71,12 +77,12 @@ pub record IsUndecided (r : Rect) (turns : ℕ) (part : Rect) : Type 0 where
 
 -- only with a turn a world is found at which the formula is false
 abbrev pub IsOutcome : Job → (turns most : ℕ) → Outcome → Type 0
-IsOutcome job turns most (Proved cert) = IsProof job turns most cert
+IsOutcome job turns most (Proved text) = IsProofText job turns most text.items
 IsOutcome job turns most (Violated world) = (0 < turns) × IsViolation job job.range world
 IsOutcome job turns most (Undecided part) = IsUndecided job.range turns part
 
 -- proved, and the fact holds, or violated, and it does not
 abbrev pub Decides : Outcome → Type 0 → Type 0
-Decides (Proved cert) P = P
+Decides (Proved text) P = P
 Decides (Violated world) P = P → ⊥
 Decides (Undecided part) P = ⊥

@@ -54,14 +54,18 @@ fn is_of_its_form(cert: &Cert) -> bool
     (cert.form == 2) == has_lemma(&cert.root)
 }
 
-/// Whether the text of a certificate that has one has at most so many bytes.
-fn has_short_text(alloc: Global, cert: &Cert, most: u64) -> Result<bool, Mem>
+/// The text of a certificate that has one, where it has at most so many bytes.
+fn short_text(alloc: Global, cert: &Cert, most: u64) -> Result<Option<Vec<u8>>, Mem>
     requires { (text : List ℕ) × CertText cert.now text }
-    ensures { IfOk result (λ yes. IsTrue yes
-        ↔ ((text : List ℕ) × CertText cert.now text × (length text ≤ most))) }
+    ensures { IfOk result (λ found. IfSome found
+        (λ text. CertText cert.now text.items × (length text.items ≤ most))) }
 {
     let text = write_cert(alloc, cert)?;
-    Ok(text.len() as u64 <= most)
+    if text.len() as u64 <= most {
+        Ok(Some(text))
+    } else {
+        Ok(None)
+    }
 }
 
 /// Whether a certificate is one grid, as it has to be for a range of at most 64 worlds, or the range has more.
@@ -71,48 +75,26 @@ fn is_grid_of_few(job: &Job, cert: &Cert) -> bool
     world_count(job.range) > MOST_WORLDS || matches!(cert.root, CertNode::Grid)
 }
 
-/// Whether a certificate is within bounds: it has a text of at most `most` bytes and 64 MiB, and at most as many grids
-/// and leaves as turns, is one grid for a range of at most 64 worlds, and is of form 2 exactly where it has lemmas. The
-/// only fault is want of memory.
-fn is_within_bounds(
+/// The text of a certificate within bounds: it has one of at most `most` bytes and 64 MiB, and at most as many grids and
+/// leaves as turns, is one grid for a range of at most 64 worlds, and is of form 2 exactly where it has lemmas. The only
+/// fault is want of memory.
+fn text_within(
     alloc: Global,
     job: &Job,
     cert: &Cert,
     turns: u64,
     most: u64,
-) -> Result<bool, Mem>
-    ensures { IfOk result (λ yes. IsTrue yes → IsWithinBounds job.now turns most cert.now) }
+) -> Result<Option<Vec<u8>>, Mem>
+    ensures { IfOk result (λ found. IfSome found
+        (λ text. IsWithinBounds job.now turns most cert.now text.items)) }
 {
     if !has_spelling(cert) || left_after(&cert.root, turns).is_none() {
-        return Ok(false);
+        return Ok(None);
     }
     if !is_of_its_form(cert) || !is_grid_of_few(job, cert) {
-        return Ok(false);
+        return Ok(None);
     }
-    has_short_text(alloc, cert, most.min(MOST_BYTES))
-}
-
-#[tactic(auto, using(crate::proofs::Judged::passes_proves, crate::proofs::Judged::untrue_violates))]
-/// What the checker's verdict on a certificate within bounds comes to: it proves the job, or the formula is false at
-/// the world of a grid that the checker names. None where it is wrong otherwise. The only fault is want of memory.
-fn judged(
-    alloc: Global,
-    job: &Job,
-    cert: Cert,
-    turns: u64,
-    most: u64,
-) -> Result<Option<Outcome>, Mem>
-    requires turn { 0 < turns }
-    requires bounds { IsWithinBounds job.now turns most cert }
-    ensures outcome { IfOk result (λ kept. IfSome kept (IsOutcome job.now turns most)) }
-    ensures decides { IfOk result (λ kept. IfSome kept
-        (λ outcome. Decides outcome (Holds job.now))) }
-{
-    match check(alloc, job, &cert)? {
-        Verdict::Accepted => Ok(Some(Outcome::Proved(cert))),
-        Verdict::Rejected(Reject::Untrue(_, world)) => Ok(Some(Outcome::Violated(world))),
-        Verdict::Rejected(_) => Ok(None),
-    }
+    short_text(alloc, cert, most.min(MOST_BYTES))
 }
 
 /// Whether a certificate, whoever made it, proves a job in at most `most` bytes, however many grids and leaves it has.
@@ -121,21 +103,22 @@ fn judged(
 pub fn is_proof(alloc: Global, job: &Job, cert: &Cert, most: u64) -> Result<bool, Mem>
     ensures { IfOk result (λ yes. IsTrue yes → IsProof job.now (2 ^ 64 - 1) most cert.now) }
 {
-    let within = is_within_bounds(alloc, job, cert, u64::MAX, most)?;
-    if !within {
+    let Some(_text) = text_within(alloc, job, cert, u64::MAX, most)? else {
         return Ok(false);
-    }
+    };
     match check(alloc, job, cert)? {
         Verdict::Accepted => Ok(true),
         Verdict::Rejected(_) => Ok(false),
     }
 }
 
-/// What stands of a certificate, where there are turns. The only fault is want of memory.
+/// What stands of a certificate, where there are turns: within bounds it proves the job, or the formula is false at the
+/// world of a grid that the checker names. None where it is wrong otherwise. The only fault is want of memory.
+#[tactic(auto, using(crate::proofs::Judged::passes_proves, crate::proofs::Judged::untrue_violates))]
 fn gated(
     alloc: Global,
     job: &Job,
-    cert: Cert,
+    cert: &Cert,
     turns: u64,
     most: u64,
 ) -> Result<Option<Outcome>, Mem>
@@ -144,10 +127,13 @@ fn gated(
     ensures decides { IfOk result (λ kept. IfSome kept
         (λ outcome. Decides outcome (Holds job.now))) }
 {
-    if is_within_bounds(alloc, job, &cert, turns, most)? {
-        judged(alloc, job, cert, turns, most)
-    } else {
-        Ok(None)
+    let Some(text) = text_within(alloc, job, cert, turns, most)? else {
+        return Ok(None);
+    };
+    match check(alloc, job, cert)? {
+        Verdict::Accepted => Ok(Some(Outcome::Proved(text))),
+        Verdict::Rejected(Reject::Untrue(_, world)) => Ok(Some(Outcome::Violated(world))),
+        Verdict::Rejected(_) => Ok(None),
     }
 }
 
@@ -156,7 +142,7 @@ fn gated(
 fn proved(
     alloc: Global,
     job: &Job,
-    cert: Cert,
+    cert: &Cert,
     turns: u64,
     most: u64,
 ) -> Result<Option<Outcome>, Mem>
@@ -165,8 +151,8 @@ fn proved(
     ensures decides { IfOk result (λ kept. IfSome kept
         (λ outcome. Decides outcome (Holds job.now))) }
 {
-    if let Some(shorter) = with_lemmas(alloc, job.form, &cert)? {
-        let kept = gated(alloc, job, shorter, turns, most)?;
+    if let Some(shorter) = with_lemmas(alloc, job.form, cert)? {
+        let kept = gated(alloc, job, &shorter, turns, most)?;
         if kept.is_some() {
             return Ok(kept);
         }
@@ -185,10 +171,9 @@ pub fn is_violation(alloc: Global, job: &Job, world: World) -> Result<bool, Mem>
     Ok(!holds_at(alloc, job, world)?)
 }
 
-/// What stands of a finding, where there are turns: a certificate that proves the job within them, of at most `most`
-/// bytes, or a world of its
-/// range at which its formula is false, which may be one of a certificate's grids. Nothing is taken on trust. The only
-/// fault is want of memory.
+/// What stands of a finding, where there are turns: the text, of at most `most` bytes, of a certificate that proves the
+/// job within them, or a world of its range at which its formula is false, which may be one of a certificate's grids.
+/// Nothing is taken on trust. The only fault is want of memory.
 pub fn confirmed(
     alloc: Global,
     job: &Job,
@@ -204,7 +189,7 @@ pub fn confirmed(
         return Ok(None);
     }
     match finding {
-        Finding::Proof(cert) => proved(alloc, job, cert, turns, most),
+        Finding::Proof(cert) => proved(alloc, job, &cert, turns, most),
         Finding::World(world) => {
             if is_violation(alloc, job, world)? {
                 Ok(Some(Outcome::Violated(world)))

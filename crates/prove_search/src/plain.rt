@@ -12,7 +12,7 @@ ghost use Rattle.prove_search.specs.declared.outcome.Outcome.TheVariants.{Undeci
 use crate::outcome::Outcome;
 use cert_check::first_untrue;
 use cert_path::variable_of;
-use cert_text::{Cert, CertNode};
+use cert_text::{Cert, CertNode, write_cert};
 use lin_row::Row;
 use std::alloc::Global;
 use viz_base::{Axis, Boxed, Job, Mem, Rect, World, halves_of, world_count};
@@ -133,7 +133,10 @@ pub fn prove_plainly(alloc: Global, job: &Job, turns: u64) -> Result<Outcome, Me
     ensures unturned { turns ≡ 0 → IfOk result (λ outcome. outcome ≡ Undecided job.now.range) }
 {
     match decide(alloc, job, job.range, turns) {
-        Ok(closed) => Ok(Outcome::Proved(certificate(&job.digest, closed.node))),
+        Ok(closed) => {
+            let cert = certificate(&job.digest, closed.node);
+            Ok(Outcome::Proved(write_cert(alloc, &cert)?))
+        }
         Err(Stop::Violated(world)) => Ok(Outcome::Violated(world)),
         Err(Stop::Undecided(rect)) => Ok(Outcome::Undecided(rect)),
         Err(Stop::Mem) => Err(Mem),

@@ -5,7 +5,6 @@ ghost use Rattle.viz_replies.specs.steps.Searches.{IsSearch, IsStep};
 ghost use Rattle.prove_search.specs.Outcomes.{plain_most};
 
 use crate::checks::CERT_MOST;
-use cert_text::write_cert;
 use prove_search::{Outcome, prove_within};
 use std::alloc::Global;
 use viz_base::{Job, Mem, Rect, World};
@@ -44,8 +43,7 @@ pub fn search_part(
     ensures { IfOk result (IsStep turns most job.now texts.old.items texts.new.items) }
 {
     match prove_within(alloc, job, turns, most)? {
-        Outcome::Proved(cert) => {
-            let text = write_cert(alloc, &cert)?;
+        Outcome::Proved(text) => {
             texts.extend_from_slice(text.as_slice())?;
             Ok(None)
         }

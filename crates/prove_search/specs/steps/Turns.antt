@@ -12,11 +12,10 @@ use Rattle.prove_search.specs.Outcomes.{laid_out_count, has_lemma}
 abbrev pub AreLeft : CertNode → ℕ → Option ℕ → Type 0
 AreLeft node turns found = MatchOption found (turns < laid_out_count node) (λ left. laid_out_count node + left ≡ turns)
 
--- it has at most as many grids and leaves as there are turns, a text of at most `most` bytes and 64 MiB, for a range of at most 64 worlds
--- it is one grid, and it is of form 2 exactly where it has lemmas
-pub record IsWithinBounds (job : Job) (turns most : ℕ) (cert : Cert) : Type 0 where
+-- it has at most as many grids and leaves as there are turns, this text of at most `most` bytes and 64 MiB, for a range of at most 64
+-- worlds it is one grid, and it is of form 2 exactly where it has lemmas
+pub record IsWithinBounds (job : Job) (turns most : ℕ) (cert : Cert) (text : List ℕ) : Type 0 where
   pub few : laid_out_count cert.root ≤ turns
-  pub text : List ℕ
   pub spelled : CertText cert text
   pub short : length text ≤ min most (2 ^ 26)
   pub one_grid : world_count job.range ≤ 64 → cert.root ≡ Grid
