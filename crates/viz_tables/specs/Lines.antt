@@ -1,9 +1,9 @@
 -- The lines of a table.
 use Rattle.std.specs.Prelude.{ℕ, Bool, true, false, List, ◌++◌, codes}
 use Rattle.viz_replies.specs.Lines.{spaced}
-use Rattle.viz_survey.specs.declared.words.Word.{Word}
-use Rattle.viz_survey.specs.declared.words.Word.TheVariants.{Holds, Fails, Undecided}
-use Rattle.viz_survey.specs.declared.words.Line.{Line}
+use Rattle.viz_tables.specs.declared.words.Word.{Word}
+use Rattle.viz_tables.specs.declared.words.Word.TheVariants.{Holds, Fails, Undecided}
+use Rattle.viz_tables.specs.declared.words.Line.{Line}
 
 -- what is said of the widths of a line
 abbrev pub word_text : Word → List ℕ

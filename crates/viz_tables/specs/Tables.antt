@@ -8,8 +8,8 @@ use Rattle.viz_replies.specs.Jobs.{job_most, long_line, refusal_line}
 use Rattle.viz_base.specs.declared.jobs.Job.{Job}
 use Rattle.viz_tables.specs.declared.rules.Rule.{Rule}
 use Rattle.viz_tables.specs.Lists.{IsListOf}
-use Rattle.viz_survey.specs.declared.words.Line.{Line}
-use Rattle.viz_survey.specs.Surveys.{IsSurvey}
+use Rattle.viz_tables.specs.declared.words.Line.{Line}
+use Rattle.viz_tables.specs.Surveys.{IsSurvey}
 use Rattle.viz_tables.specs.declared.table.TableAnswer.{TableAnswer}
 use Rattle.viz_tables.specs.declared.table.TableAnswer.TheVariants as ends
 use Rattle.viz_tables.specs.Lines.{form_line, is_open, line_text, long_list_line, place_line}

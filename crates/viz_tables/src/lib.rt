@@ -3,17 +3,25 @@
 #![tactic(auto)]
 
 mod faults;
+mod joining;
 mod judging;
 mod lines;
+mod lining;
 mod lists;
 mod refusals;
 mod rule_lines;
 mod rules;
+mod searching;
+mod surveys;
+mod sweep;
 mod table;
 mod tables;
+mod words;
 
 pub use faults::ListFault;
 pub use lists::read_list;
 pub use rules::Rule;
+pub use surveys::survey;
 pub use table::{Table, TableAnswer};
 pub use tables::{LIST_MOST, long_list, reply_to_table};
+pub use words::{Line, Word};

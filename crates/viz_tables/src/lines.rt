@@ -4,9 +4,9 @@ ghost use Rattle.std.specs.List.{flat_map, list_any};
 ghost use Rattle.viz_replies.specs.Lines.{spaced};
 ghost use Rattle.viz_tables.specs.Lines.{is_open, line_text, word_text};
 
+use crate::words::{Line, Word};
 use itoa::Buffer;
 use std::alloc::AllocError;
-use viz_survey::{Line, Word};
 
 /// What is said of the widths of a line.
 fn word_text(word: Word) -> &'static str

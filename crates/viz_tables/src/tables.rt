@@ -10,12 +10,12 @@ use crate::lines::{push_lines, some_open};
 use crate::lists::read_list;
 use crate::refusals::{broken_line, refused};
 use crate::rules::Rule;
+use crate::surveys::survey;
 use crate::table::{Table, TableAnswer};
 use page_build::JobRefusal;
 use std::alloc::Global;
 use viz_base::Mem;
 use viz_replies::{JOB_MOST, long_job};
-use viz_survey::survey;
 
 /// Lists of more bytes are refused.
 pub const LIST_MOST: usize = 2_097_152;

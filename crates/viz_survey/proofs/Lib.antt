@@ -1,4 +1,0 @@
-pub mod Widths
-pub mod Stretches
-pub mod LineLemmas
-pub mod SurveyLemmas

@@ -1,5 +1,0 @@
-use Rattle.std.proofs.Common.{length}
-use Rattle.viz_survey.proofs.joining.+all_words.Given as goal
-
-abbrev pub decreases-all_words : goal.decreases-all_words
-decreases-all_words l = length l.jobs.items

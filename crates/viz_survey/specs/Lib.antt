@@ -1,4 +1,0 @@
-pub mod Words
-pub mod Joins
-pub mod Searches
-pub mod Surveys
