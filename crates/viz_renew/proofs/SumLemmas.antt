@@ -3,8 +3,8 @@ use Rattle.std.proofs.Common.{◌≡◌, ◌∙◌, ℕ, ◌+◌, ◌<◌, ◌�
 use Rattle.std.proofs.lemmas.List.{take_more}
 use Rattle.viz_base.specs.declared.jobs.Job.{Job}
 use Rattle.cert_text.specs.declared.certificate.Cert.{Cert}
-use Rattle.cert_kept.specs.declared.kept.Kept.{Kept}
-use Rattle.cert_kept.specs.Kept.{ArePieces}
+use Rattle.viz_renew.specs.declared.counts.Kept.{Kept}
+use Rattle.viz_renew.specs.Pieces.{ArePieces}
 use Rattle.viz_renew.specs.declared.sums.Sums.{Sums}
 use Rattle.viz_renew.specs.Kept.{AddUp, plus}
 

@@ -2,8 +2,8 @@
 use Rattle.std.specs.Prelude.{◌≡◌, ℕ, ◌+◌, List, [], ◌∷◌, ◌++◌, codes}
 use Rattle.viz_base.specs.declared.jobs.Job.{Job}
 use Rattle.cert_text.specs.declared.certificate.Cert.{Cert}
-use Rattle.cert_kept.specs.declared.kept.Kept.{Kept}
-use Rattle.cert_kept.specs.Kept.{ArePieces}
+use Rattle.viz_renew.specs.declared.counts.Kept.{Kept}
+use Rattle.viz_renew.specs.Pieces.{ArePieces}
 use Rattle.viz_replies.specs.declared.reply.Answer.{Answer}
 use Rattle.viz_replies.specs.declared.reply.Answer.TheVariants as ends
 use Rattle.viz_replies.specs.Lines.{spaced}

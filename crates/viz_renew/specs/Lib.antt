@@ -1,4 +1,5 @@
 pub mod Files
+pub mod Pieces
 pub mod Kept
 pub mod Renewals
 pub mod steps

@@ -1,2 +1,4 @@
 pub mod Read
 pub mod Renew
+pub mod Bare
+pub mod Walks

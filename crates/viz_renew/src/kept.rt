@@ -3,9 +3,9 @@ ghost use Rattle.std.specs.Prelude.{◌≡◌, length, IfOk};
 ghost use Rattle.viz_renew.specs.Kept.{AddUp, IsKeptReply, IsReplyToKept};
 ghost use Rattle.viz_renew.specs.steps.Read.{HaveFewNodes};
 
+use crate::certificates::pieces;
 use crate::files::{FilesRead, read_files};
 use crate::sums::Sums;
-use cert_kept::pieces;
 use cert_text::Cert;
 use std::alloc::Global;
 use viz_base::{Job, Mem};

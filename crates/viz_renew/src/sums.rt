@@ -1,7 +1,7 @@
 ghost use Rattle.std.specs.Prelude.{◌≡◌, ◌+◌, ◌++◌, IfOk, OnOk};
 ghost use Rattle.viz_renew.specs.Kept.{no_sums, plus, share, sums_line};
 
-use cert_kept::Kept;
+use crate::counts::Kept;
 use std::alloc::{AllocError, Global};
 use viz_base::Mem;
 use viz_replies::push_number;

@@ -1,4 +1,0 @@
-pub mod Barely
-pub mod Walking
-pub mod Marks
-pub mod Heres
