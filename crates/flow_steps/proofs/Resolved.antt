@@ -1,5 +1,5 @@
 -- Deciding clearance on the way gives what the definition finds by trying leads that pass more and more boxes.
-use Rattle.std.proofs.Common.{◌≡◌, ℕ, zero, suc, ◌+◌, ◌<◌, ◌≤◌, ℤ, Bool, true, false, int_lt, IsTrue, List, [], ◌++◌, length, Option, None, Some, refl, sym, ap, ◌∙◌, subst, arith}
+use Rattle.std.proofs.Common.{◌≡◌, ℕ, zero, suc, ◌+◌, ◌<◌, ◌≤◌, ℤ, Bool, true, false, if◌then◌else◌, int_lt, IsTrue, List, [], ◌++◌, length, Option, None, Some, refl, sym, ap, ◌∙◌, subst, arith}
 use Rattle.std.specs.Prelude.{unwrap_or}
 use Rattle.std.specs.Option.{option_map_or}
 use Rattle.std.proofs.lemmas.Bool.Decides.{nat_tests}
@@ -88,7 +88,7 @@ module _ (tree : BoxTree) (w : World) (size : Waiting ℤ → Extent ℤ) (base 
     Left left p = (d : ℕ) → p d ≡ false → d < length tree.boxes → length tree.boxes ≤ left + d
 
     abbrev chosen : Leading → Resolved → ℕ → Bool → Resolved
-    chosen l again d c = elim c as (λ _. Resolved) [ true ↦ record { margins = l.margins; cleared = Some (d, landed.cleared_edge ground before l d) } | false ↦ again ]
+    chosen l again d c = if c then record { margins = l.margins; cleared = Some (d, landed.cleared_edge ground before l d) } else again
 
     abbrev tried_by : Leading → (ℕ → Resolved) → LeadEnd → Resolved
     tried_by l again end = elim end as (λ _. Resolved) [

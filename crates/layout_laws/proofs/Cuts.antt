@@ -1,4 +1,4 @@
-use Rattle.std.proofs.Common.{◌≡◌, ℕ, zero, suc, ◌<◌, Bool, true, false, List, [], ◌∷◌, ◌++◌, length, take, reverse, refl, sym, ◌∙◌, ap, subst, length-append, ◌↔◌, arith}
+use Rattle.std.proofs.Common.{◌≡◌, ℕ, zero, suc, ◌<◌, Bool, true, false, if◌then◌else◌, List, [], ◌∷◌, ◌++◌, length, take, reverse, refl, sym, ◌∙◌, ap, subst, length-append, ◌↔◌, arith}
 use Rattle.std.specs.List.{AllByRecursion, onto_first}
 use Rattle.layout_semantics.specs.InlineContent.{Item}
 use Rattle.layout_semantics.specs.Stretches.{cut_where}
@@ -11,8 +11,7 @@ Test = List Item → List Item → Bool
 
 -- an item before parts, as a part of its own where the test holds after it
 abbrev with_item : Item → Bool → List (List Item) → List (List Item)
-with_item i true parts = (i ∷ []) ∷ parts
-with_item i false parts = onto_first i parts
+with_item i b parts = if b then (i ∷ []) ∷ parts else onto_first i parts
 
 -- ---- nothing is lost
 

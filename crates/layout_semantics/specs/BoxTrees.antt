@@ -41,7 +41,8 @@ tree_style is_root gives_clip s = record s {
 
 abbrev pub tree_style_of : Option ℕ → (ℕ × Node) × Style → Style
 tree_style_of clip styled =
-    tree_style (styled_element styled.0.0 styled.0.1 == 0) (is_in (styled_element styled.0.0 styled.0.1) clip) styled.1
+    let element = styled_element styled.0.0 styled.0.1 in
+    tree_style (element == 0) (is_in element clip) styled.1
 
 abbrev pub tree_styles : List Node → List Style → List Style
 tree_styles nodes styles = map (tree_style_of (viewport_clip nodes styles)) (zip (enumerate_from 0 nodes) styles)

@@ -1,6 +1,6 @@
 -- Clearance (CSS 2.1, 9.5.2). The hypothetical place of a box with `clear`, the places of floats between
 -- adjoining margins and what becomes of the margins are our own reading of 8.3.1 and 9.5.2.
-use Rattle.std.specs.Prelude.{ℕ, zero, suc, ℤ, ◌+ℤ◌, Bool, true, false, List, [], ◌∷◌, ◌++◌, int_lt, length, Option, Some, None}
+use Rattle.std.specs.Prelude.{ℕ, zero, suc, ℤ, ◌+ℤ◌, Bool, true, false, List, [], ◌∷◌, ◌++◌, int_lt, length, Option, Some, None, if◌then◌else◌}
 use Rattle.std.specs.Option.{option_map_or}
 use Rattle.viz_base.specs.declared.layouts.Band.{Band}
 use Rattle.viz_base.specs.declared.layouts.Extent.{Extent}
@@ -62,7 +62,9 @@ module _ (g : Ground) (run : List ℤ) where
   -- A lead was found that ends at a box d with `clear`. Its border edge if it were not cleared: after the
   -- margins before it, its own top margin and its leading descendants' up to the next box with `clear`.
   abbrev pub hypothetical_edge : Leading → ℕ → ℤ
-  hypothetical_edge found d = edge_after (found.margins ++ (lead g.tree g.world (is_up_to d) found.cb d).margins)
+  hypothetical_edge found d =
+      let its_own = (lead g.tree g.world (is_up_to d) found.cb d).margins in
+      edge_after (found.margins ++ its_own)
 
   -- the lowest outer bottom of the floats that the `clear` of a box names, those that wait being placed at y
   abbrev pub bottom_to_clear : Leading → ℕ → ℤ → Option ℤ
@@ -72,25 +74,25 @@ module _ (g : Ground) (run : List ℤ) where
   -- d is cleared where that edge is above such a bottom, the floats that wait being tried at that edge
   abbrev pub is_cleared : Leading → ℕ → Bool
   is_cleared found d =
-      option_map_or (int_lt (hypothetical_edge found d)) (bottom_to_clear found d (hypothetical_edge found d)) false
+      let edge = hypothetical_edge found d in
+      option_map_or (int_lt edge) (bottom_to_clear found d edge) false
 
   -- its border edge is then the lowest such bottom, the floats that wait
   -- standing where the run ends without d's margins
   abbrev pub cleared_edge : Leading → ℕ → ℤ
   cleared_edge found d =
-      option_map_or (λ bottom. bottom) (bottom_to_clear found d (edge_after found.margins)) (edge_after found.margins)
+      let edge = edge_after found.margins in
+      option_map_or (λ bottom. bottom) (bottom_to_clear found d edge) edge
 
   -- a lead that ends at a box with `clear` ends there where that one is cleared; else it counts as
   -- not cleared, and the lead goes on through it; any other lead joins the run as it is
   abbrev pub resolve_step : (ℕ → Resolved) → Leading → Resolved
   resolve_step go_on found = by_end found.end
     where
-      by_clearance : ℕ → Bool → Resolved
-      by_clearance d true = record { margins = found.margins; cleared = Some (d, cleared_edge found d) }
-      by_clearance d false = go_on d
-
       by_end : LeadEnd → Resolved
-      by_end (of_end.Cleared d) = by_clearance d (is_cleared found d)
+      by_end (of_end.Cleared d) =
+          if is_cleared found d then record { margins = found.margins; cleared = Some (d, cleared_edge found d) }
+          else go_on d
       by_end _ = record { margins = found.margins; cleared = None }
 
   -- so many boxes being left that may be passed

@@ -1,5 +1,5 @@
 -- The used values of widths and horizontal margins (CSS 2.1, 10.3, 10.4).
-use Rattle.std.specs.Prelude.{ℕ, ℤ, pos, ◌+ℤ◌, ◌-ℤ◌, int_le, Bool, true, false, Option, Some, None}
+use Rattle.std.specs.Prelude.{ℕ, ℤ, pos, ◌+ℤ◌, ◌-ℤ◌, int_le, Bool, true, false, ◌&&◌, Option, Some, None, if◌then◌else◌}
 use Rattle.std.specs.Int.{int_max, int_min}
 use Rattle.viz_base.specs.Numbers.{floor_of}
 use Rattle.viz_base.specs.declared.layouts.Preferred.{Preferred}
@@ -50,9 +50,8 @@ is_auto _ = false
 -- the left margin where the other terms leave so much: two automatic margins share it equally, the left one rounded
 -- down (our own reading), and one takes it all; where the terms are too wide an automatic margin is 0
 abbrev pub left_margin : (left_auto right_auto fits : Bool) → ℤ → ℤ → ℤ
-left_margin true true true left_over given = floor_of left_over 2
-left_margin true false true left_over given = left_over
-left_margin _ _ _ left_over given = given
+left_margin left_auto right_auto fits left_over given =
+    if left_auto && fits then (if right_auto then floor_of left_over 2 else left_over) else given
 
 -- the terms with another left margin, and the right margin that makes the sum the containing block's width
 abbrev pub with_margins : Widths ℤ → ℤ → ℤ → Widths ℤ
@@ -61,20 +60,19 @@ with_margins t cb left =
 
 -- of a fixed width
 abbrev pub fixed_terms : BoxTree → World → ℕ → ℤ → ℤ → Widths ℤ
-fixed_terms tree w at cb width = by_rest (terms_around tree w at cb width)
-  where
-    by_rest : Widths ℤ → Widths ℤ
-    by_rest t = with_margins t cb
-        (left_margin (is_auto (margins tree at).left) (is_auto (margins tree at).right) (int_le (sum_of t) cb)
-        (cb -ℤ sum_of t) t.margin_left)
+fixed_terms tree w at cb width =
+    let t = terms_around tree w at cb width in
+    let fits = int_le (sum_of t) cb in
+    let left_over = cb -ℤ sum_of t in
+    with_margins t cb
+    (left_margin (is_auto (margins tree at).left) (is_auto (margins tree at).right) fits left_over t.margin_left)
 
 -- of width `auto`: automatic margins are 0 and the width follows; where it would
 -- be negative it is 0 and the right margin gives way (our own reading)
 abbrev pub auto_terms : BoxTree → World → ℕ → ℤ → Widths ℤ
-auto_terms tree w at cb = by_terms (terms_around tree w at cb (available tree w at cb))
-  where
-    by_terms : Widths ℤ → Widths ℤ
-    by_terms t = with_margins t cb t.margin_left
+auto_terms tree w at cb =
+    let t = terms_around tree w at cb (available tree w at cb) in
+    with_margins t cb t.margin_left
 
 abbrev pub block_terms : BoxTree → World → ℕ → ℤ → Option ℤ → Widths ℤ
 block_terms tree w at cb None = auto_terms tree w at cb
@@ -96,8 +94,7 @@ shrunk_terms tree w at cb (Some width) = terms_around tree w at cb width
 
 -- the terms again with another width, where the tentative one isn't as it should be
 abbrev pub again_unless : Bool → (Option ℤ → Widths ℤ) → ℤ → Widths ℤ → Widths ℤ
-again_unless true terms width tentative = tentative
-again_unless false terms width tentative = terms (Some width)
+again_unless is_right terms width tentative = if is_right then tentative else terms (Some width)
 
 abbrev pub at_most : (Option ℤ → Widths ℤ) → Option ℤ → Widths ℤ → Widths ℤ
 at_most terms None t = t
@@ -110,10 +107,10 @@ at_least terms least t = again_unless (int_le least t.content) terms least t
 -- that is less, and then with its minimum where that is more
 abbrev pub held_terms : BoxTree → World → ℕ → ℤ → (Option ℤ → Widths ℤ) → Widths ℤ
 held_terms tree w at cb terms =
-    at_least terms (used tree w (own tree at (λ (s : Style). s.min_width) nothing) cb)
-    (at_most terms (maximum (λ length. used_unless_auto tree w length cb)
-    (own tree at (λ (s : Style). s.max_width) None))
-    (terms (used_unless_auto tree w (own tree at (λ (s : Style). s.width) of_length.Auto) cb)))
+    let width = used_unless_auto tree w (own tree at (λ (s : Style). s.width) of_length.Auto) cb in
+    let most = maximum (λ length. used_unless_auto tree w length cb) (own tree at (λ (s : Style). s.max_width) None) in
+    let least = used tree w (own tree at (λ (s : Style). s.min_width) nothing) cb in
+    at_least terms least (at_most terms most (terms width))
 
 -- ---- a box
 

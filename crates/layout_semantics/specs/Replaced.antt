@@ -34,22 +34,19 @@ replaced_height size width height = unwrap_or height (by_ratio width size.0 size
 
 -- both of a box, in a containing block of width `cb`
 abbrev pub replaced_size : BoxTree → World → ℕ → ℤ → Extent ℤ
-replaced_size tree w at cb = sized (replaced_width (intrinsic tree at)
-    (used_unless_auto tree w (own tree at (λ (s : Style). s.width) of_length.Auto) cb) (given_height tree w at)
-    (maximum (λ length. used_unless_auto tree w length cb) (own tree at (λ (s : Style). s.max_width) None))
-    (used tree w (own tree at (λ (s : Style). s.min_width) nothing) cb))
-  where
-    sized : ℤ → Extent ℤ
-    sized width = record {
-      width = width;
-      height = held_height tree w at
-          (replaced_height (intrinsic tree at) width (given_height tree w at));
-    }
+replaced_size tree w at cb =
+    let height = given_height tree w at in
+    let given = used_unless_auto tree w (own tree at (λ (s : Style). s.width) of_length.Auto) cb in
+    let most = maximum (λ length. used_unless_auto tree w length cb) (own tree at (λ (s : Style). s.max_width) None) in
+    let least = used tree w (own tree at (λ (s : Style). s.min_width) nothing) cb in
+    let width = replaced_width (intrinsic tree at) given height most least in
+    record { width = width; height = held_height tree w at (replaced_height (intrinsic tree at) width height) }
 
 -- the width in preferred widths, where percentages count as `auto` and none: our own reading of 10.3.5
 abbrev pub preferred_replaced : BoxTree → World → ℕ → ℤ
-preferred_replaced tree w at = replaced_width (intrinsic tree at)
-    (used_if_absolute tree w (own tree at (λ (s : Style). s.width) of_length.Auto))
-    (used_if_absolute tree w (own tree at (λ (s : Style). s.height) of_length.Auto))
-    (maximum (used_if_absolute tree w) (own tree at (λ (s : Style). s.max_width) None))
-    (unwrap_or (used_if_absolute tree w (own tree at (λ (s : Style). s.min_width) nothing)) (pos 0))
+preferred_replaced tree w at =
+    let given = used_if_absolute tree w (own tree at (λ (s : Style). s.width) of_length.Auto) in
+    let height = used_if_absolute tree w (own tree at (λ (s : Style). s.height) of_length.Auto) in
+    let most = maximum (used_if_absolute tree w) (own tree at (λ (s : Style). s.max_width) None) in
+    let least = unwrap_or (used_if_absolute tree w (own tree at (λ (s : Style). s.min_width) nothing)) (pos 0) in
+    replaced_width (intrinsic tree at) given height most least

@@ -1,5 +1,5 @@
 -- Where lines may break (CSS 2.1, 9.4.2, 16.6): our own reading of what the standard leaves open.
-use Rattle.std.specs.Prelude.{ℕ, ◌==◌, Bool, true, false, not, ◌&&◌, ◌||◌, nat_le, cond, List, [], ◌∷◌, ◌++◌, length, drop, reverse, Option, Some, None, find}
+use Rattle.std.specs.Prelude.{ℕ, ◌==◌, Bool, true, false, not, ◌&&◌, ◌||◌, nat_le, cond, if◌then◌else◌, List, [], ◌∷◌, ◌++◌, length, drop, reverse, Option, Some, None, find}
 use Rattle.std.specs.List.{list_all, list_any, onto_first, before_first, last_or}
 use Rattle.std.specs.Option.{option_map_or}
 use Rattle.viz_base.specs.declared.styles.Style.{Style}
@@ -118,11 +118,9 @@ is_break may_be_parted back after = by_things (find is_thing back) (find is_thin
 -- a list cut where the test holds of what is before, nearest first, and what is after
 abbrev pub cut_where : (List Item → List Item → Bool) → List Item → List Item → List (List Item)
 cut_where test back [] = []
-cut_where test back (i ∷ items) = joined (test (i ∷ back) items) (cut_where test (i ∷ back) items)
-  where
-    joined : Bool → List (List Item) → List (List Item)
-    joined true parts = (i ∷ []) ∷ parts
-    joined false parts = onto_first i parts
+cut_where test back (i ∷ items) =
+    let parts = cut_where test (i ∷ back) items in
+    if test (i ∷ back) items then (i ∷ []) ∷ parts else onto_first i parts
 
 -- the stretches that no line may break
 abbrev pub stretches : BoxTree → List Item → List (List Item)

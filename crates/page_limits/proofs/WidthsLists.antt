@@ -1,5 +1,5 @@
 -- Sums over lists: how large what is made of a list can be, against the costs of its elements together.
-use Rattle.std.proofs.Common.{◌≡◌, ℕ, zero, suc, ◌+◌, ◌≤◌, ℤ, pos, ◌+ℤ◌, unsigned_abs, Bool, true, false, List, [], ◌∷◌, ◌++◌, map, fold, reverse, Option, Some, None, slice_index_or, refl, sym, ap, subst, arith}
+use Rattle.std.proofs.Common.{if◌then◌else◌, ◌≡◌, ℕ, zero, suc, ◌+◌, ◌≤◌, ℤ, pos, ◌+ℤ◌, unsigned_abs, Bool, true, false, List, [], ◌∷◌, ◌++◌, map, fold, reverse, Option, Some, None, slice_index_or, refl, sym, ap, subst, arith}
 use Rattle.std.specs.Prelude.{replicate, slice_set, unwrap_or}
 use Rattle.std.specs.List.{AllByRecursion, onto_first}
 use Rattle.std.proofs.lemmas.Int.{ints, clamps}
@@ -101,8 +101,7 @@ module _ (cost : Item → ℕ) where
       omega (arith, first, back, last, again)
 
   abbrev with_item : Item → Bool → List (List Item) → List (List Item)
-  with_item i true parts = (i ∷ []) ∷ parts
-  with_item i false parts = onto_first i parts
+  with_item i b parts = if b then (i ∷ []) ∷ parts else onto_first i parts
 
   item-cost : (i : Item) (b : Bool) (parts : List (List Item)) → costs (costs cost) (with_item i b parts) ≡ cost i + costs (costs cost) parts
   item-cost i true parts = omega arith

@@ -1,6 +1,6 @@
 -- Inline content in parts, in one pass: at each thing the place of the
 -- break behind it is found from what lies before the next thing.
-use Rattle.std.specs.Prelude.{ℕ, zero, suc, ◌==◌, Bool, true, false, not, cond, List, [], ◌∷◌, ◌++◌, filter, Option, Some, None, find}
+use Rattle.std.specs.Prelude.{ℕ, zero, suc, ◌==◌, Bool, true, false, not, cond, if◌then◌else◌, List, [], ◌∷◌, ◌++◌, filter, Option, Some, None, find}
 use Rattle.std.specs.List.{onto_first}
 use Rattle.layout_semantics.specs.InlineContent.{Item, start, finish, forced}
 use Rattle.layout_semantics.specs.Stretches.{is_thing, is_end, until_thing, Parting}
@@ -65,8 +65,7 @@ is_here (Some (suc n)) = false
 
 -- an item before parts, as a part of its own where it ends one
 abbrev pub parted : Item → Bool → List (List Item) → List (List Item)
-parted i true parts = (i ∷ []) ∷ parts
-parted i false parts = onto_first i parts
+parted i b parts = if b then (i ∷ []) ∷ parts else onto_first i parts
 
 abbrev pub cut : Parting → Option Item → Option ℕ → List Item → List (List Item)
 cut part last left [] = []
