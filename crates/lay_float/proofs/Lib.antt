@@ -11,3 +11,5 @@ pub mod Stands
 pub mod BetweenTops
 pub mod Ended
 pub mod Agreeing
+pub mod Tops
+pub mod Same

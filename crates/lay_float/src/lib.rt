@@ -8,5 +8,6 @@ mod extremes;
 mod floats;
 mod front;
 mod shelves;
+pub mod trial;
 
 pub use floats::{Floats, PlacedFloat};

@@ -8,7 +8,7 @@ use Rattle.layout_semantics.specs.Clearance.{Ground}
 use Rattle.layout_semantics.specs.Floats.{FloatBox, placed_float, float_spot, with_float}
 use Rattle.std.specs.Prelude.{int_lt}
 use Rattle.page_limits.specs.Bounds.{all_around, IsFloatIn}
-use Rattle.lay_trial.specs.Trials.{Tried, reaching}
+use Rattle.lay_float.specs.Trials.{Tried, reaching}
 use Rattle.lay_flow.specs.Tries.{waits, first_trial, next_trial, TrialFits}
 use Rattle.lay_flow.specs.WayFits.{WaitingFits}
 use Rattle.lay_flow.proofs.WaitingLow.{next-waits}

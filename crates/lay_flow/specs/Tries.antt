@@ -3,7 +3,7 @@ use Rattle.std.specs.Prelude.{ℤ, List}
 use Rattle.viz_base.specs.declared.layouts.Waiting.{Waiting}
 use Rattle.layout_semantics.specs.Clearance.{Ground}
 use Rattle.layout_semantics.specs.Floats.{Floating, floating}
-use Rattle.lay_trial.specs.Trials.{Tried, first_tried, next_tried, all_tried}
+use Rattle.lay_float.specs.Trials.{Tried, first_tried, next_tried, all_tried}
 use Rattle.lay_flow.specs.WayFits.{WaitingFits}
 
 module _ (g : Ground) where

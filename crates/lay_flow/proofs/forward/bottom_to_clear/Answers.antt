@@ -10,8 +10,8 @@ use Rattle.lay_line.proofs.Chains.{but_mem, start_but_mem, next_but_mem}
 use Rattle.lay_margin.specs.Readings.{floats_at as waiting_at, waiting_at as waiting_in}
 use Rattle.flow_steps.specs.Flow.{size_in}
 use Rattle.flow_steps.specs.Forward.{bottom_to_clear}
-use Rattle.lay_trial.specs.Trials.{Tried}
-use Rattle.lay_trial.proofs.Same.{tried-same}
+use Rattle.lay_float.specs.Trials.{Tried}
+use Rattle.lay_float.proofs.Same.{tried-same}
 use Rattle.lay_flow.specs.Readings.{apart_at}
 use Rattle.lay_flow.specs.Tries.{other_trials, TrialFits}
 use Rattle.lay_flow.specs.WayFits.{WaitingFits}

@@ -4,8 +4,8 @@ use Rattle.viz_calc.specs.World.{Reading}
 use Rattle.viz_calc.proofs.Runs.{Goes-then, BlamesButMem-then}
 use Rattle.lay_float.proofs.Loops.{goes-on}
 use Rattle.lay_margin.specs.Readings.{floats_at as waiting_at, waiting_at as waiting_in}
-use Rattle.lay_trial.specs.Readings.{trial_at}
-use Rattle.lay_trial.specs.Trials.{Tried}
+use Rattle.lay_float.specs.TrialReadings.{trial_at}
+use Rattle.lay_float.specs.Trials.{Tried}
 use Rattle.lay_flow.specs.Tries.{other_trials, TrialFits}
 use Rattle.lay_flow.specs.Ways.{ground_at}
 use Rattle.lay_flow.proofs.TriesLow.{next-fits, one-fits}

@@ -2,7 +2,7 @@ use Rattle.std.proofs.Common.{◌≡◌, drop, IsTrue}
 use Rattle.viz_calc.specs.World.{Reading}
 use Rattle.viz_calc.specs.Run.{Goes, BlamesButMem}
 use Rattle.lay_margin.specs.Readings.{floats_at as waiting_at}
-use Rattle.lay_trial.specs.Readings.{trial_at}
+use Rattle.lay_float.specs.TrialReadings.{trial_at}
 use Rattle.lay_flow.specs.Tries.{other_trials, TrialFits}
 use Rattle.lay_flow.specs.Ways.{ground_at}
 use Rattle.lay_flow.proofs.forward.try_others.Given as goal

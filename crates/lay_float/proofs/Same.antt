@@ -16,8 +16,8 @@ use Rattle.layout_laws.specs.FloatRules.{IsNextTo, IsLowEnough, ObeysRules, IsNo
 use Rattle.layout_laws.proofs.Members.{first_member, only_member, from_filter, to_filter}
 use Rattle.lay_float.specs.Places.{IsHighest}
 use Rattle.lay_float.proofs.Highest.{highest_is}
-use Rattle.lay_trial.specs.Trials.{Tried, reaching, first_tried, next_tried, all_tried}
-use Rattle.lay_trial.proofs.Tops.{top-from, top-least, top-bottom, top-most}
+use Rattle.lay_float.specs.Trials.{Tried, reaching, first_tried, next_tried, all_tried}
+use Rattle.lay_float.proofs.Tops.{top-from, top-least, top-bottom, top-most}
 
 -- the floats that are near say of those to come at y what all floats say
 pub record IsTrial (y : ℤ) (all near : List FloatBox) (level : ℤ) : Type 0 where

@@ -6,8 +6,8 @@ use Rattle.viz_calc.proofs.Runs.{Goes-then, BlamesButMem-then}
 use Rattle.lay_float.specs.Limits.{AreHalf}
 use Rattle.lay_float.specs.Readings.{boxes_at}
 use Rattle.lay_float.specs.steps.Lent.{lent_at}
-use Rattle.lay_trial.specs.Readings.{coming_at}
-use Rattle.lay_trial.proofs.trial.begin.Goals as goal
+use Rattle.lay_float.specs.TrialReadings.{coming_at}
+use Rattle.lay_float.proofs.trial.begin.Goals as goal
 
 pub returns : goal.returns
 returns g c = record {

@@ -6,8 +6,8 @@ use Rattle.layout_semantics.specs.Floats.{FloatBox}
 use Rattle.layout_laws.proofs.Members.{to_map}
 use Rattle.lay_float.specs.Readings.{box_at, boxes_at, floats_at}
 use Rattle.lay_float.proofs.Spots.{edges_fit}
-use Rattle.lay_trial.specs.Trials.{reaching}
-use Rattle.lay_trial.proofs.trial.still_open.Goals as goal
+use Rattle.lay_float.specs.Trials.{reaching}
+use Rattle.lay_float.proofs.trial.still_open.Goals as goal
 
 -- a chosen first one stands before the other chosen ones
 first-chosen : {A : Type 0} (test : A → Bool) (x : A) (xs : List A) → filter test (x ∷ []) ++ filter test xs ≡ filter test (x ∷ xs)

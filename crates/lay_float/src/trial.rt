@@ -8,11 +8,11 @@ ghost use Rattle.layout_semantics.specs.Floats.{placed_float, float_spot, with_f
 ghost use Rattle.lay_float.specs.Limits.{AreHalf};
 ghost use Rattle.lay_float.specs.Readings.{box_at, boxes_at, floats_at, extent_at};
 ghost use Rattle.lay_float.specs.steps.Lent.{lent_at};
-ghost use Rattle.lay_trial.specs.Readings.{coming_at, trial_at};
-ghost use Rattle.lay_trial.specs.Trials.{reaching, first_tried, next_tried, tried};
+ghost use Rattle.lay_float.specs.TrialReadings.{coming_at, trial_at};
+ghost use Rattle.lay_float.specs.Trials.{reaching, first_tried, next_tried, tried};
 
-use lay_float::engine::{copy, float_at, float_top};
-use lay_float::{Floats, PlacedFloat};
+use crate::engine::{copy, float_at, float_top};
+use crate::floats::{Floats, PlacedFloat};
 use std::alloc::Global;
 use viz_base::{Band, Clear, Extent, Quad, Side, Spot};
 use viz_calc::Steady;

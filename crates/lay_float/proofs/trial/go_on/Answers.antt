@@ -8,9 +8,9 @@ use Rattle.layout_laws.proofs.Members.{from_filter}
 use Rattle.lay_float.specs.Limits.{AreHalf}
 use Rattle.lay_float.specs.Readings.{boxes_at, floats_at}
 use Rattle.lay_float.specs.steps.Lent.{lent_at}
-use Rattle.lay_trial.specs.Readings.{coming_at}
-use Rattle.lay_trial.specs.Trials.{reaching, tried}
-use Rattle.lay_trial.proofs.trial.go_on.Goals as goal
+use Rattle.lay_float.specs.TrialReadings.{coming_at}
+use Rattle.lay_float.specs.Trials.{reaching, tried}
+use Rattle.lay_float.proofs.trial.go_on.Goals as goal
 
 fewer-half : (level : ℤ) (floats : List FloatBox) (numbers : List ℤ) → AreHalf floats numbers → AreHalf (reaching level floats) numbers
 fewer-half level floats numbers h = record { edges = λ f i. h.edges f (from_filter (λ (f : FloatBox). int_lt level f.box.bottom) floats f i).0; numbers = h.numbers }

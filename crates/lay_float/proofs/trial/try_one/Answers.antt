@@ -11,8 +11,8 @@ use Rattle.lay_float.specs.Readings.{boxes_at, floats_at}
 use Rattle.lay_float.specs.steps.Lent.{lent_at}
 use Rattle.lay_float.proofs.Rooms.{top_half}
 use Rattle.lay_float.proofs.Spots.{placed_small}
-use Rattle.lay_trial.specs.Readings.{coming_at}
-use Rattle.lay_trial.proofs.trial.try_one.Goals as goal
+use Rattle.lay_float.specs.TrialReadings.{coming_at}
+use Rattle.lay_float.proofs.trial.try_one.Goals as goal
 
 pub returns : goal.returns
 returns g c = record {

@@ -4,9 +4,9 @@ use Rattle.viz_calc.specs.World.{Reading}
 use Rattle.viz_calc.specs.Renderings.{band_at}
 use Rattle.layout_semantics.specs.Floats.{Floating}
 use Rattle.lay_float.specs.Readings.{floats_at, extent_at}
-use Rattle.lay_trial.specs.Trials.{Tried}
-use Rattle.lay_trial.specs.declared.trial.Trial.{Trial}
-use Rattle.lay_trial.specs.declared.trial.Coming.{Coming}
+use Rattle.lay_float.specs.Trials.{Tried}
+use Rattle.lay_float.specs.declared.trial.Trial.{Trial}
+use Rattle.lay_float.specs.declared.trial.Coming.{Coming}
 
 abbrev pub coming_at : {N : Type 0} → (N → Reading → ℤ) → Coming N → Reading → Floating
 coming_at at f e =

@@ -7,7 +7,7 @@ use Rattle.lay_float.specs.Limits.{IsHalf, AreHalf}
 use Rattle.lay_float.specs.Readings.{boxes_at}
 use Rattle.lay_float.specs.steps.Lent.{lent_at}
 use Rattle.lay_float.proofs.Rooms.{top_half}
-use Rattle.lay_trial.proofs.trial.spot_among.Goals as goal
+use Rattle.lay_float.proofs.trial.spot_among.Goals as goal
 
 pub returns : goal.returns
 returns g c = record {

@@ -3,8 +3,8 @@ use Rattle.viz_calc.specs.World.{Reading}
 use Rattle.viz_calc.specs.Run.{Goes, BlamesButMem}
 use Rattle.lay_float.specs.Limits.{AreHalf}
 use Rattle.lay_float.specs.Readings.{boxes_at, floats_at}
-use Rattle.lay_trial.specs.Trials.{reaching}
-use Rattle.lay_trial.proofs.trial.still_open.Given as goal
+use Rattle.lay_float.specs.Trials.{reaching}
+use Rattle.lay_float.proofs.trial.still_open.Given as goal
 
 -- the floats so far, with those of the rest that end below the level, are all that do
 abbrev pub invariant-loop-f : goal.invariant-loop-f
