@@ -1,6 +1,5 @@
 use cert_text::{Cert, CertNode, read_cert};
-use lin_proof::Answer;
-use lin_row::Row;
+use lin_proof::{Answer, Row};
 use std::test::Fail;
 use sym_calc::{Path, Sym};
 use viz_base::Rect;

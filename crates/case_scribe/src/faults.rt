@@ -1,6 +1,6 @@
 use cert_text::CertFault;
 use css_syntax::SheetFault;
-use lin_row::RowFault;
+use lin_proof::RowFault;
 use page_build::JobRefusal;
 use page_media::MediaFault;
 use std::alloc::AllocError;

@@ -5,7 +5,7 @@ use Rattle.std.specs.Int.Signed.{lt_z}
 use Rattle.std.proofs.lemmas.Int.{ints}
 use Rattle.std.proofs.lemmas.Bool.{and_parts}
 use Rattle.viz_base.specs.declared.worlds.Rect.{Rect}
-use Rattle.lin_row.specs.Form.{Form, denied}
+use Rattle.lin_proof.specs.Form.{Form, denied}
 use Rattle.cert_path.specs.Paths.{Step, def, first, second, lemma, Path, root, ◌▸◌, form_of, variables, is_declared, AreSound}
 use Rattle.cert_path.specs.Facts.{step_facts, facts}
 use Rattle.cert_path.specs.Derived.{AreEntailed}

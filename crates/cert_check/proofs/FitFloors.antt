@@ -6,10 +6,10 @@ use Rattle.std.specs.List.{list_all}
 use Rattle.std.proofs.lemmas.Int.{ints}
 use Rattle.std.proofs.lemmas.Bool.{and_parts}
 use Rattle.std.proofs.lemmas.Bool.Decides.{nat_tests}
-use Rattle.lin_row.specs.Number.{in_i128}
-use Rattle.lin_row.specs.Form.{Form, Terms, IsCanonical, terms_fit, put, plus_term, plus_terms}
-use Rattle.lin_row.proofs.Opposites.{in_i128-fit}
-use Rattle.lin_row.proofs.Sums.{plus_term-cases, front_right}
+use Rattle.lin_proof.specs.Number.{in_i128}
+use Rattle.lin_proof.specs.Form.{Form, Terms, IsCanonical, terms_fit, put, plus_term, plus_terms}
+use Rattle.lin_proof.proofs.Opposites.{in_i128-fit}
+use Rattle.lin_proof.proofs.Sums.{plus_term-cases, front_right}
 use Rattle.lin_proof.specs.Derivations.{are_declared}
 use Rattle.cert_path.specs.Shapes.{is_remainder, has_remainders}
 use Rattle.cert_path.specs.Laws.{IsRemainder}

@@ -5,7 +5,7 @@ use Rattle.viz_base.specs.declared.worlds.World.{World}
 use Rattle.viz_base.specs.declared.worlds.Rect.{Rect}
 use Rattle.viz_base.specs.declared.jobs.Job.{Job}
 use Rattle.viz_base.specs.Worlds.{IsInRange}
-use Rattle.lin_row.specs.Form.{value}
+use Rattle.lin_proof.specs.Form.{value}
 use Rattle.cert_path.specs.Paths.{def, first, second, lemma, Path, root, ◌▸◌, form_of, values_along, IsOn}
 use Rattle.cert_path.specs.Rectangles.{rectangle}
 use Rattle.cert_path.specs.Laws.{UnitsAreTaken}

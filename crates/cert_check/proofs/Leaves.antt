@@ -7,7 +7,7 @@ use Rattle.viz_base.specs.Numbers.{Rose}
 use Rattle.viz_base.specs.declared.jobs.Job.{Job}
 use Rattle.viz_calc.specs.World.{Reading}
 use Rattle.viz_calc.specs.State.{Kept, Grows}
-use Rattle.lin_row.specs.Form.{Form}
+use Rattle.lin_proof.specs.Form.{Form}
 use Rattle.lin_proof.specs.declared.derivation.Answer.{Answer}
 use Rattle.cert_path.specs.Paths.{Path, form_of}
 use Rattle.cert_path.specs.Facts.{facts}

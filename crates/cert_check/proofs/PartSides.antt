@@ -13,7 +13,7 @@ use Rattle.viz_base.specs.declared.worlds.Span.{Span}
 use Rattle.viz_base.specs.declared.worlds.Rect.{Rect}
 use Rattle.viz_base.specs.Worlds.{side_of, with_side, world_count as count_of, IsInRange}
 use Rattle.viz_base.specs.declared.jobs.Job.{Job}
-use Rattle.lin_row.specs.Form.{Form, Terms, denied}
+use Rattle.lin_proof.specs.Form.{Form, Terms, denied}
 use Rattle.cert_path.specs.Axes.{variable_of, axis_of, stands_for}
 use Rattle.cert_path.specs.Rectangles.{Side, Sides, cut_sides, cut_side as cut_a_side, left_by, left_by_terms, side_from, whole, rectangle, count, world_count}
 use Rattle.cert_path.specs.Paths.{Step, first, second, Path, ◌▸◌, form_of, variables}

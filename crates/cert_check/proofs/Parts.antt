@@ -10,7 +10,7 @@ use Rattle.viz_base.specs.declared.worlds.Axis.TheVariants.{Width, Size, Height}
 use Rattle.viz_base.specs.declared.worlds.Span.{Span}
 use Rattle.viz_base.specs.declared.worlds.Rect.{Rect}
 use Rattle.viz_base.specs.Worlds.{side_of, with_side}
-use Rattle.lin_row.specs.Form.{Form, Terms}
+use Rattle.lin_proof.specs.Form.{Form, Terms}
 use Rattle.cert_path.specs.Laws.{IsUnit}
 use Rattle.viz_base.specs.declared.rectangles.Child.{Child}
 use Rattle.viz_base.specs.declared.rectangles.Opens.{Opens}

@@ -11,8 +11,8 @@ use Rattle.std.proofs.lemmas.Bool.Decides.{nat_tests}
 use Rattle.std.proofs.lemmas.Option.{same_Some, slice_get-map}
 use Rattle.viz_base.specs.declared.worlds.World.{World}
 use Rattle.viz_base.specs.declared.worlds.Axis.{Axis}
-use Rattle.lin_row.specs.Form.{Form, Terms, value, terms_value}
-use Rattle.lin_row.specs.Number.{in_i128}
+use Rattle.lin_proof.specs.Form.{Form, Terms, value, terms_value}
+use Rattle.lin_proof.specs.Number.{in_i128}
 use Rattle.viz_base.specs.Worlds.{along}
 use Rattle.cert_path.specs.Axes.{axes, axis_of, number_on}
 use Rattle.cert_path.specs.Paths.{def, first, second, lemma, Path, root, ◌▸◌, form_of, variables, with_value, with_floor, values_at, values_along}

@@ -10,9 +10,9 @@ use Rattle.std.proofs.lemmas.List.Elements.{recursion_from_All}
 use Rattle.viz_base.specs.declared.worlds.World.{World}
 use Rattle.viz_base.specs.declared.jobs.Job.{Job}
 use Rattle.viz_base.proofs.ListLemmas.{all_append, all_parts}
-use Rattle.lin_row.specs.Number.{in_i128}
-use Rattle.lin_row.specs.Form.{Form, terms_fit, opposites, form_fits, denied}
-use Rattle.lin_row.proofs.Opposites.{in_i128-fit}
+use Rattle.lin_proof.specs.Number.{in_i128}
+use Rattle.lin_proof.specs.Form.{Form, terms_fit, opposites, form_fits, denied}
+use Rattle.lin_proof.proofs.Opposites.{in_i128-fit}
 use Rattle.cert_text.specs.declared.certificate.CertNode.{CertNode}
 use Rattle.cert_text.specs.declared.certificate.CertNode.TheOpen.{CertNode-F}
 use Rattle.cert_text.specs.declared.certificate.CertNode.TheFolds.{fold-roll-CertNode}

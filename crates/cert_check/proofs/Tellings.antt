@@ -9,7 +9,7 @@ use Rattle.viz_base.specs.declared.jobs.Job.{Job}
 use Rattle.viz_base.proofs.Truths.{not_both}
 use Rattle.viz_base.proofs.ListLemmas.{all_append}
 use Rattle.viz_base.specs.Worlds.{IsInRange}
-use Rattle.lin_row.specs.Form.{Form, form_fits, denied}
+use Rattle.lin_proof.specs.Form.{Form, form_fits, denied}
 use Rattle.lin_proof.specs.declared.derivation.Derivation.{Derivation}
 use Rattle.cert_text.specs.declared.certificate.Cert.{Cert}
 use Rattle.cert_text.specs.declared.certificate.CertNode.{CertNode}

@@ -1,7 +1,7 @@
 -- Laws over certificates.
 use Rattle.std.specs.Prelude.{◌≡◌, ◌↔◌, ℕ, List, IsTrue}
 use Rattle.viz_base.specs.declared.jobs.Job.{Job}
-use Rattle.lin_row.specs.Form.{Form}
+use Rattle.lin_proof.specs.Form.{Form}
 use Rattle.cert_text.specs.declared.certificate.Cert.{Cert}
 use Rattle.cert_text.specs.Texts.{CertText}
 use Rattle.cert_path.specs.Laws.{IsUnit}

@@ -2,8 +2,8 @@
 use Rattle.std.specs.Prelude.{ℕ, ℤ, ◌+ℤ◌, ◌*ℤ◌, Bool, true, ◌&&◌, ◌||◌, IsTrue, [], ◌∷◌, Option, Some, None, is_some, if◌then◌else◌, option_and_then}
 use Rattle.viz_base.specs.declared.worlds.World.{World}
 use Rattle.viz_base.specs.declared.worlds.Rect.{Rect}
-use Rattle.lin_row.specs.Form.{Form, Terms}
-use Rattle.lin_row.specs.Number.{in_i128}
+use Rattle.lin_proof.specs.Form.{Form, Terms}
+use Rattle.lin_proof.specs.Number.{in_i128}
 use Rattle.cert_path.specs.Paths.{def, first, second, lemma, Path, root, ◌▸◌, form_of, values_along}
 use Rattle.cert_path.specs.Rectangles.{rectangle}
 use Rattle.cert_path.specs.Laws.{IsInside}

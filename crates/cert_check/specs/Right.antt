@@ -2,7 +2,7 @@
 use Rattle.std.specs.Prelude.{◌≡◌, ℕ, true, IsTrue, Some, slice_get, ⊤}
 use Rattle.std.specs.List.{All}
 use Rattle.viz_base.specs.declared.jobs.Job.{Job}
-use Rattle.lin_row.specs.Form.{form_fits, denied}
+use Rattle.lin_proof.specs.Form.{form_fits, denied}
 use Rattle.lin_proof.specs.Derivations.{Refutes}
 use Rattle.lin_proof.specs.Entailments.{Entails}
 use Rattle.cert_text.specs.declared.certificate.Cert.{Cert}

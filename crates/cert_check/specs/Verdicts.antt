@@ -4,7 +4,7 @@ use Rattle.viz_base.specs.declared.worlds.World.{World}
 use Rattle.viz_base.specs.declared.worlds.Rect.{Rect}
 use Rattle.viz_base.specs.declared.jobs.Job.{Job}
 use Rattle.viz_base.specs.Worlds.{IsInRange}
-use Rattle.lin_row.specs.Form.{form_fits, denied}
+use Rattle.lin_proof.specs.Form.{form_fits, denied}
 use Rattle.lin_proof.specs.Derivations.{first_fault}
 use Rattle.lin_proof.specs.Entailments.{with_denied}
 use Rattle.cert_text.specs.declared.certificate.Cert.{Cert}

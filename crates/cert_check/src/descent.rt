@@ -1,5 +1,5 @@
 ghost use Rattle.std.specs.Prelude.{◌≡◌, ◌<◌, ◌^◌, [], IfOk, IsTrue, OnOk};
-ghost use Rattle.lin_row.specs.Form.{IsCanonical, denied, form_fits};
+ghost use Rattle.lin_proof.specs.Form.{IsCanonical, denied, form_fits};
 ghost use Rattle.cert_path.specs.Facts.{facts};
 ghost use Rattle.cert_path.specs.Nodes.{names};
 ghost use Rattle.cert_path.specs.Paths.{def, first, second, lemma, ◌▸◌, is_declared, variables};
@@ -10,7 +10,7 @@ ghost use Rattle.sym_calc.specs.Laws.{origin_of};
 ghost use Rattle.cert_check.specs.steps.Descent.{path_of, are_sound, entailed_above, is_below_def, is_below_row, outer_of};
 
 use cert_path::axis_count;
-use lin_row::{Row, RowFault};
+use lin_proof::{Row, RowFault};
 use std::alloc::{AllocError, Global};
 use sym_calc::{Floor, Path};
 use viz_base::{Job, List, Mem};

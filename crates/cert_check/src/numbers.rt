@@ -7,7 +7,7 @@ ghost use Rattle.cert_check.specs.steps.Grids.{value_in, pass, place_of, are_abo
 
 use crate::descent::Above;
 use cert_path::{along, cut_of};
-use lin_row::Row;
+use lin_proof::Row;
 use std::alloc::Global;
 use viz_base::{Axis, List, Mem, World};
 

@@ -1,7 +1,7 @@
 ghost use Rattle.std.specs.Prelude.{◌≡◌, ◌<◌, ◌^◌, ◌&&◌, pos, IfOk};
 ghost use Rattle.std.specs.Int.Signed.{lt_z};
 ghost use Rattle.std.specs.List.{list_all};
-ghost use Rattle.lin_row.specs.Form.{denied, form_fits};
+ghost use Rattle.lin_proof.specs.Form.{denied, form_fits};
 ghost use Rattle.lin_proof.specs.Derivations.{are_declared};
 ghost use Rattle.cert_path.specs.Nodes.{names, splits};
 ghost use Rattle.cert_path.specs.Paths.{is_declared, variables};
@@ -9,7 +9,7 @@ ghost use Rattle.cert_path.specs.Shapes.{has_remainders, has_variable, is_remain
 ghost use Rattle.cert_check.specs.steps.Ways.{path_at};
 
 use crate::descent::Descent;
-use lin_row::{Row, RowFault};
+use lin_proof::{Row, RowFault};
 use sym_calc::Floor;
 use viz_base::Mem;
 

@@ -1,4 +1,4 @@
-use lin_row::Row;
+use lin_proof::Row;
 use thiserror::Error;
 use viz_base::World;
 

@@ -14,8 +14,7 @@ use crate::walk::{
     Stop, check_answers, check_def, check_grid, check_lemma, check_split, check_void, child_part,
 };
 use cert_text::Piece;
-use lin_proof::{Answer, Derivation};
-use lin_row::Row;
+use lin_proof::{Answer, Derivation, Row};
 use std::alloc::{AllocError, Global};
 use viz_base::{Child, Job, Mem, Rect};
 

@@ -1,7 +1,7 @@
 ghost use Rattle.std.specs.Prelude.{◌≡◌, ◌+◌, ◌<◌, ◌≤◌, ◌^◌, [], ◌∷◌, ◌++◌, IsTrue, IfOk, IfSome, OnOk};
 ghost use Rattle.viz_base.specs.declared.jobs.Job.{Job};
 ghost use Rattle.std.specs.Option.{option_and_then};
-ghost use Rattle.lin_row.specs.Form.{denied, form_fits};
+ghost use Rattle.lin_proof.specs.Form.{denied, form_fits};
 ghost use Rattle.cert_text.specs.Nodes.{node_count};
 ghost use Rattle.cert_path.specs.Nodes.{names, splits, states, is_empty, by_worlds, by_answers, Node, node_on, nodes_from};
 ghost use Rattle.cert_path.specs.Axes.{axis_count};
@@ -25,9 +25,9 @@ use crate::verdicts::{Reject, Verdict};
 use cert_path::cut_of;
 use cert_text::CertNode;
 use lin_proof::{
-    Answer, Derivation, Facts, first_fault_among, first_fault_of_entailment, line_count,
+    Answer, Derivation, Facts, Row, RowFault, first_fault_among, first_fault_of_entailment,
+    line_count,
 };
-use lin_row::{Row, RowFault};
 use std::alloc::{AllocError, Global};
 use sym_calc::Sym;
 use viz_base::{Boxed, Child, Mem, Rect, part_of, world_count};

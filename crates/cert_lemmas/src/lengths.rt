@@ -1,5 +1,5 @@
 //! How many bytes numbers and rows have in a certificate's text.
-use lin_row::Row;
+use lin_proof::Row;
 
 /// How many decimal digits a number of 128 bits has at most.
 const MOST_DIGITS: u8 = 39;

@@ -1,6 +1,5 @@
 use crate::lengths::{int_length, number_length, part_length, row_length};
-use lin_proof::{Answer, Branch, Derivation, Ending, Step};
-use lin_row::Row;
+use lin_proof::{Answer, Branch, Derivation, Ending, Row, Step};
 
 /// How many lines a derivation from a lemma has.
 const SHORT: u64 = 4;

@@ -3,8 +3,7 @@ use crate::renaming::{Renaming, copied};
 use crate::survey::{Group, Survey};
 use cert_path::axis_count;
 use cert_text::CertNode;
-use lin_proof::{Answer, Derivation, Ending, Step};
-use lin_row::{Row, RowFault};
+use lin_proof::{Answer, Derivation, Ending, Row, RowFault, Step};
 use std::alloc::Global;
 use viz_base::{Boxed, List, Mem};
 

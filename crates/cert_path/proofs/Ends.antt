@@ -6,7 +6,7 @@ use Rattle.std.proofs.lemmas.Int.{ints}
 use Rattle.std.proofs.lemmas.Option.{same_Some}
 use Rattle.viz_base.specs.declared.worlds.World.{World}
 use Rattle.viz_base.proofs.ListLemmas.{all_append}
-use Rattle.lin_row.specs.Form.{Form, value}
+use Rattle.lin_proof.specs.Form.{Form, value}
 use Rattle.lin_proof.specs.declared.derivation.Derivation.{Derivation}
 use Rattle.cert_text.specs.declared.certificate.Cert.{Cert}
 use Rattle.cert_text.specs.declared.certificate.CertNode.{CertNode}

@@ -10,7 +10,7 @@ use Rattle.std.proofs.lemmas.Int.{ints}
 use Rattle.std.proofs.lemmas.Bool.Decides.{nat_tests, Decides-and, Decides-not, Decides-by_and, Decides-eqb, Decides-int_eq}
 use Rattle.std.proofs.lemmas.Slice.Eq.{slice_eq-Decides}
 use Rattle.viz_base.specs.declared.worlds.Rect.{Rect}
-use Rattle.lin_row.specs.Form.{Form, Terms}
+use Rattle.lin_proof.specs.Form.{Form, Terms}
 use Rattle.lin_proof.specs.Derivations.{are_declared}
 use Rattle.cert_path.specs.Paths.{Step, def, first, second, lemma, Path, root, ◌▸◌, HasStep, variables, is_declared}
 use Rattle.cert_path.specs.Nodes.{names}

@@ -12,9 +12,9 @@ use Rattle.viz_base.specs.declared.worlds.Axis.{Axis}
 use Rattle.viz_base.specs.Worlds.{side_of, IsInRange}
 use Rattle.viz_base.specs.Jobs.{IsFormed}
 use Rattle.viz_base.proofs.ListLemmas.{all_append, all_parts}
-use Rattle.lin_row.specs.Form.{Form, value, plus, denied}
-use Rattle.lin_row.proofs.Values.{value-plus, value-denied}
-use Rattle.lin_row.proofs.Whole.{div_below}
+use Rattle.lin_proof.specs.Form.{Form, value, plus, denied}
+use Rattle.lin_proof.proofs.Values.{value-plus, value-denied}
+use Rattle.lin_proof.proofs.Whole.{div_below}
 use Rattle.lin_proof.specs.declared.derivation.Derivation.{Derivation}
 use Rattle.lin_proof.specs.declared.derivation.Answer.{Answer}
 use Rattle.lin_proof.specs.Derivations.{Refutes}

@@ -11,8 +11,8 @@ use Rattle.viz_base.specs.declared.worlds.Axis.{Axis}
 use Rattle.viz_base.specs.declared.worlds.Axis.TheVariants.{Width, Size, Height}
 use Rattle.viz_base.specs.declared.worlds.Rect.{Rect}
 use Rattle.viz_base.specs.Worlds.{along, IsInRange}
-use Rattle.lin_row.specs.Form.{Form, Terms, value, denied, opposites}
-use Rattle.lin_row.proofs.Values.{value-denied}
+use Rattle.lin_proof.specs.Form.{Form, Terms, value, denied, opposites}
+use Rattle.lin_proof.proofs.Values.{value-denied}
 use Rattle.lin_proof.specs.Derivations.{are_declared}
 use Rattle.cert_path.specs.Axes.{variable_of, axis_of, axis_count, stands_for, number_on}
 use Rattle.cert_path.specs.Paths.{def, first, second, lemma, Path, root, ◌▸◌, form_of, values_at, values_along}

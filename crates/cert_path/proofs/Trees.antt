@@ -1,6 +1,6 @@
 -- Induction over the nodes of a certificate, and the list of its nodes at each form of node.
 use Rattle.std.proofs.Common.{◌≡◌, ℤ, List, subst, rules}
-use Rattle.lin_row.specs.Form.{Form}
+use Rattle.lin_proof.specs.Form.{Form}
 use Rattle.lin_proof.specs.declared.derivation.Derivation.{Derivation}
 use Rattle.lin_proof.specs.declared.derivation.Answer.{Answer}
 use Rattle.cert_text.specs.declared.certificate.CertNode.{CertNode}

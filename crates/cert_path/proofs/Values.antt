@@ -4,9 +4,9 @@ use Rattle.std.proofs.lemmas.Int.{ints}
 use Rattle.std.proofs.lemmas.Bool.{and_parts}
 use Rattle.std.proofs.lemmas.Bool.Decides.{nat_tests}
 use Rattle.viz_base.specs.declared.worlds.World.{World}
-use Rattle.lin_row.specs.Form.{Form, Terms, terms_value, value, plus, denied}
-use Rattle.lin_row.proofs.Values.{value-plus, value-denied}
-use Rattle.lin_row.proofs.Whole.{distribute_left, above_by}
+use Rattle.lin_proof.specs.Form.{Form, Terms, terms_value, value, plus, denied}
+use Rattle.lin_proof.proofs.Values.{value-plus, value-denied}
+use Rattle.lin_proof.proofs.Whole.{distribute_left, above_by}
 use Rattle.lin_proof.specs.Derivations.{are_declared}
 use Rattle.cert_path.specs.Axes.{axis_count}
 use Rattle.cert_path.specs.Paths.{def, first, second, lemma, Path, root, ◌▸◌, form_of, variables, with_value, values_at, values_along}

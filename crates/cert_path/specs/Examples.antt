@@ -3,7 +3,7 @@
 use Rattle.std.specs.Prelude.{ℤ, pos, negsuc, List, [], ◌∷◌}
 use Rattle.viz_base.specs.declared.worlds.World.{World}
 use Rattle.viz_base.specs.declared.worlds.Rect.{Rect}
-use Rattle.lin_row.specs.Form.{Form}
+use Rattle.lin_proof.specs.Form.{Form}
 use Rattle.cert_path.specs.Paths.{def, first, second, lemma, Path, root, ◌▸◌}
 use Rattle.cert_path.specs.Facts.{row_of}
 

@@ -5,7 +5,7 @@ use Rattle.viz_base.specs.declared.worlds.Axis.{Axis}
 use Rattle.viz_base.specs.declared.worlds.Span.{Span}
 use Rattle.viz_base.specs.declared.worlds.Rect.{Rect}
 use Rattle.viz_base.specs.Worlds.{side_of}
-use Rattle.lin_row.specs.Form.{Form, plus, denied}
+use Rattle.lin_proof.specs.Form.{Form, plus, denied}
 use Rattle.cert_path.specs.Axes.{variable_of, axes}
 use Rattle.cert_path.specs.Paths.{Step, def, first, second, lemma, Path, root, ◌▸◌, variables}
 

@@ -7,7 +7,7 @@ use Rattle.viz_base.specs.declared.worlds.Axis.TheVariants.{Height}
 use Rattle.viz_base.specs.declared.worlds.Rect.{Rect}
 use Rattle.viz_base.specs.Worlds.{along, IsInRange}
 use Rattle.viz_base.specs.Jobs.{IsFormed}
-use Rattle.lin_row.specs.Form.{Form, value}
+use Rattle.lin_proof.specs.Form.{Form, value}
 use Rattle.lin_proof.specs.declared.derivation.Derivation.{Derivation}
 use Rattle.lin_proof.specs.declared.derivation.Answer.{Answer}
 use Rattle.lin_proof.specs.Derivations.{Refutes}

@@ -1,6 +1,6 @@
 -- The nodes of a certificate.
 use Rattle.std.specs.Prelude.{ℕ, ℤ, Bool, true, false, List, [], ◌∷◌, ◌++◌}
-use Rattle.lin_row.specs.Form.{Form}
+use Rattle.lin_proof.specs.Form.{Form}
 use Rattle.lin_proof.specs.declared.derivation.Derivation.{Derivation}
 use Rattle.lin_proof.specs.declared.derivation.Answer.{Answer}
 use Rattle.cert_text.specs.declared.certificate.Cert.{Cert}

@@ -3,7 +3,7 @@
 use Rattle.std.specs.Prelude.{◌≡◌, ◌⊎◌, ℕ, ◌+◌, ◌==◌, ℤ, pos, ◌≤ℤ◌, ◌<ℤ◌, Bool, if◌then◌else◌, IsTrue, ⊤}
 use Rattle.std.specs.Int.{int_div_euclid}
 use Rattle.viz_base.specs.declared.worlds.World.{World}
-use Rattle.lin_row.specs.Form.{Form, value}
+use Rattle.lin_proof.specs.Form.{Form, value}
 use Rattle.lin_proof.specs.Derivations.{are_declared}
 use Rattle.cert_path.specs.Axes.{axis_count, axis_of, number_on}
 

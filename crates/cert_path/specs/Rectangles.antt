@@ -8,7 +8,7 @@ use Rattle.viz_base.specs.declared.worlds.Axis.TheVariants.{Width, Size, Height}
 use Rattle.viz_base.specs.declared.worlds.Span.{Span}
 use Rattle.viz_base.specs.declared.worlds.Rect.{Rect}
 use Rattle.viz_base.specs.Worlds.{side_of}
-use Rattle.lin_row.specs.Form.{Form, Terms, denied}
+use Rattle.lin_proof.specs.Form.{Form, Terms, denied}
 use Rattle.cert_path.specs.Axes.{stands_for}
 use Rattle.cert_path.specs.Paths.{def, first, second, lemma, Path, root, ◌▸◌, form_of}
 

@@ -5,7 +5,7 @@ use Rattle.std.specs.Int.Signed.{lt_z}
 use Rattle.std.specs.List.{list_all}
 use Rattle.std.specs.Cmp.Lexicographic.{pointwise}
 use Rattle.viz_base.specs.declared.worlds.Rect.{Rect}
-use Rattle.lin_row.specs.Form.{Form}
+use Rattle.lin_proof.specs.Form.{Form}
 use Rattle.cert_text.specs.declared.certificate.Cert.{Cert}
 use Rattle.cert_path.specs.Paths.{def, first, second, lemma, Path, root, ◌▸◌, is_declared}
 use Rattle.cert_path.specs.Rectangles.{rectangle, world_count}

@@ -8,7 +8,7 @@ use Rattle.viz_base.specs.declared.rectangles.Child.{Child}
 use Rattle.viz_base.specs.declared.rectangles.Opens.TheVariants.{Above, UpTo}
 use Rattle.viz_base.specs.declared.rectangles.Cut.{Cut}
 use Rattle.viz_base.specs.Rectangles.{part_of}
-use Rattle.lin_row.specs.Form.{Form, Terms}
+use Rattle.lin_proof.specs.Form.{Form, Terms}
 use Rattle.cert_path.specs.Axes.{axis_of, variable_of}
 use Rattle.cert_path.specs.Paths.{def, first, second, lemma, Path, root, ◌▸◌, form_of}
 

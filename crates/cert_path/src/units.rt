@@ -3,7 +3,7 @@ ghost use Rattle.std.specs.Prelude.{◌≡◌};
 ghost use Rattle.cert_path.specs.Units.{coefficient_cut, cut_of};
 
 use crate::axes::axis_of;
-use lin_row::Row;
+use lin_proof::Row;
 use viz_base::{Axis, Cut, Opens};
 
 /// Where `k + coefficient * number` is at least 0 for the number on the axis, the coefficient being 1 or -1.

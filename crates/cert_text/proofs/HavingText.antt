@@ -5,10 +5,10 @@ use Rattle.std.specs.Ordering.{int_eq}
 use Rattle.std.specs.Int.Signed.{lt_z}
 use Rattle.std.proofs.lemmas.Bool.{lt-ltb, le-leb}
 use Rattle.std.proofs.lemmas.Bool.Decides.{nat_tests}
-use Rattle.lin_row.specs.Number.{in_i128}
-use Rattle.lin_row.specs.Form.{Terms}
-use Rattle.lin_row.proofs.Opposites.{in_i128-fit}
-use Rattle.lin_row.proofs.Sums.{int_eq-false}
+use Rattle.lin_proof.specs.Number.{in_i128}
+use Rattle.lin_proof.specs.Form.{Terms}
+use Rattle.lin_proof.proofs.Opposites.{in_i128-fit}
+use Rattle.lin_proof.proofs.Sums.{int_eq-false}
 use Rattle.cert_text.specs.declared.certificate.Cert.{Cert}
 use Rattle.cert_text.specs.Texts.{part_has_text, is_num, is_nonzero, terms_have_text, cert_text, cert_has_text, CertText}
 

@@ -7,9 +7,9 @@ use Rattle.std.proofs.Math.Bool.{or-false, or-true}
 use Rattle.std.proofs.lemmas.Bool.{false≢true, and_parts}
 use Rattle.std.proofs.lemmas.Bool.Decides.{nat_tests}
 use Rattle.std.proofs.lemmas.List.{append-nil}
-use Rattle.lin_row.specs.Form.{Form, Terms, IsCanonical, IsAbove}
-use Rattle.lin_row.specs.Number.{in_i128}
-use Rattle.lin_row.proofs.Sums.{int_eq-false}
+use Rattle.lin_proof.specs.Form.{Form, Terms, IsCanonical, IsAbove}
+use Rattle.lin_proof.specs.Number.{in_i128}
+use Rattle.lin_proof.proofs.Sums.{int_eq-false}
 use Rattle.cert_text.specs.declared.turn.Turn.{Turn}
 use Rattle.cert_text.specs.declared.turn.Turn.TheVariants.{More, Last}
 use Rattle.cert_text.specs.Texts.{is_num, is_nonzero, terms_have_text, row_has_text}

@@ -20,8 +20,8 @@ use Rattle.std.specs.Ordering.{int_eq}
 use Rattle.std.specs.Int.Signed.{lt_z}
 use Rattle.std.specs.List.{flat_map, concat, list_all}
 use Rattle.hex.specs.Hex.{encode_lower}
-use Rattle.lin_row.specs.Number.{in_i128}
-use Rattle.lin_row.specs.Form.{Form, Terms}
+use Rattle.lin_proof.specs.Number.{in_i128}
+use Rattle.lin_proof.specs.Form.{Form, Terms}
 use Rattle.lin_proof.specs.declared.derivation.Step.{Step}
 use Rattle.lin_proof.specs.declared.derivation.Step.TheVariants.{Fact, Sum, Cut}
 use Rattle.lin_proof.specs.declared.derivation.Derivation.{Derivation}

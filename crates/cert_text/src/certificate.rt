@@ -1,5 +1,4 @@
-use lin_proof::{Answer, Derivation};
-use lin_row::Row;
+use lin_proof::{Answer, Derivation, Row};
 use thiserror::Error;
 use viz_base::{Boxed, List};
 

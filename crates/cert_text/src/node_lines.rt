@@ -2,8 +2,7 @@ ghost use Rattle.std.specs.Prelude.{◌≡◌};
 ghost use Rattle.cert_text.specs.steps.Whole.{piece_of};
 
 use crate::certificate::Piece;
-use lin_proof::{Answer, Derivation};
-use lin_row::Row;
+use lin_proof::{Answer, Derivation, Row};
 use viz_base::{Boxed, List};
 
 /// A node without the nodes below it. What is larger lies in boxes, so that a level of a walk takes little of the

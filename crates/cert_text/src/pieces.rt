@@ -9,8 +9,7 @@ use crate::node_lines::NodeLines;
 use crate::numbers::natural;
 use crate::read::{MOST_TIMES, read_answers, read_derivation, read_row};
 use crate::spelling::{MOST_CASES, WITH_LEMMAS};
-use lin_proof::Derivation;
-use lin_row::Row;
+use lin_proof::{Derivation, Row};
 use std::alloc::Global;
 use viz_base::Boxed;
 

@@ -7,8 +7,7 @@ use crate::cursor::{Cursor, Stop};
 use crate::numbers::{natural, signed};
 use crate::spelling::MOST_CASES;
 use crate::turn::Turn;
-use lin_proof::{Answer, Branch, Derivation, Ending, Step};
-use lin_row::{Row, Terms};
+use lin_proof::{Answer, Branch, Derivation, Ending, Row, Step, Terms};
 use std::alloc::{AllocError, Global};
 use viz_base::{Boxed, List};
 

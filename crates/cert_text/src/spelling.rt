@@ -1,11 +1,10 @@
 ghost use Rattle.std.specs.Prelude.{◌≡◌, ◌↔◌, ℕ, nat_lt, List, IsTrue};
 ghost use Rattle.std.specs.List.{list_all};
-ghost use Rattle.lin_row.specs.Number.{in_i128};
+ghost use Rattle.lin_proof.specs.Number.{in_i128};
 ghost use Rattle.cert_text.specs.Texts.{CertText, answer_has_text, branch_has_text, cert_has_text, derivation_has_text, ending_has_text, is_form, is_num, job_has_text, node_has_text, part_has_text, row_has_text, step_has_text, terms_have_text};
 
 use crate::certificate::{Cert, CertNode};
-use lin_proof::{Answer, Branch, Derivation, Ending, Step};
-use lin_row::Row;
+use lin_proof::{Answer, Branch, Derivation, Ending, Row, Step};
 
 /// The form of a certificate that may have lemmas.
 pub const WITH_LEMMAS: u8 = 2;

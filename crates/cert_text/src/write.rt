@@ -7,8 +7,7 @@ ghost use Rattle.cert_text.specs.Texts.{CertText, answer_text, answer_word, bran
 
 use crate::certificate::{Cert, CertNode};
 use itoa::Buffer;
-use lin_proof::{Answer, Branch, Derivation, Ending, Step};
-use lin_row::Row;
+use lin_proof::{Answer, Branch, Derivation, Ending, Row, Step};
 use std::alloc::{AllocError, Global};
 use viz_base::Mem;
 

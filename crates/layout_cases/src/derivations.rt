@@ -4,10 +4,9 @@ ghost use Rattle.lin_proof.specs.Derivations.{lines_of};
 use crate::rows::{row, row_at};
 use case_scribe::{Fault, Scribe};
 use lin_proof::{
-    Branch, Derivation, Ending, Step, entails, first_fault, first_fault_of_entailment, line_count,
-    refutes,
+    Branch, Derivation, Ending, Row, RowFault, Step, entails, first_fault,
+    first_fault_of_entailment, line_count, refutes,
 };
-use lin_row::{Row, RowFault};
 use serde_json::Value;
 use viz_base::{Boxed, List};
 

@@ -1,5 +1,5 @@
 use case_scribe::{Fault, Scribe};
-use lin_row::{Row, RowFault};
+use lin_proof::{Row, RowFault};
 use serde_json::Value;
 
 /// The row that a call gives, or 0 where it has a fault.

@@ -6,7 +6,7 @@ use Rattle.std.specs.Int.Signed.{lt_z}
 use Rattle.std.proofs.lemmas.Int.{ints, unsigned_abs-mul, fits_signed_from_abs}
 use Rattle.std.proofs.lemmas.Bool.{false≢true, cases_lt}
 use Rattle.std.proofs.lemmas.Bool.Decides.{nat_tests}
-use Rattle.lin_row.specs.Number.{in_i128}
+use Rattle.lin_proof.specs.Number.{in_i128}
 use Rattle.lin_proof.specs.Multiples.{Cancels, IsLeast, IsLowest, NoneCancel}
 use Rattle.lin_proof.proofs.Divisors.{positive}
 

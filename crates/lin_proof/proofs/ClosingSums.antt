@@ -7,12 +7,12 @@ use Rattle.std.proofs.lemmas.Int.{ints}
 use Rattle.std.proofs.lemmas.Bool.{and_parts, false≢true, cases_lt}
 use Rattle.std.proofs.lemmas.Bool.Decides.{nat_tests}
 use Rattle.std.proofs.lemmas.Option.{cond_some}
-use Rattle.lin_row.specs.Number.{in_i128}
-use Rattle.lin_row.specs.Form.{Form, Terms, IsAbove, IsCanonical, terms_value, terms_fit, form_fits, checked_form, plus, plus_terms}
-use Rattle.lin_row.proofs.Sums.{above_lower, IsCanonical-plus_terms, front_right}
-use Rattle.lin_row.proofs.Merges.{put_nonzero}
-use Rattle.lin_row.proofs.Values.{terms_value-plus_terms}
-use Rattle.lin_row.proofs.Whole.{distribute_left, associate, times_above}
+use Rattle.lin_proof.specs.Number.{in_i128}
+use Rattle.lin_proof.specs.Form.{Form, Terms, IsAbove, IsCanonical, terms_value, terms_fit, form_fits, checked_form, plus, plus_terms}
+use Rattle.lin_proof.proofs.Sums.{above_lower, IsCanonical-plus_terms, front_right}
+use Rattle.lin_proof.proofs.Merges.{put_nonzero}
+use Rattle.lin_proof.proofs.Values.{terms_value-plus_terms}
+use Rattle.lin_proof.proofs.Whole.{distribute_left, associate, times_above}
 use Rattle.lin_proof.specs.Derivations.{zero_form, checked_plus, sum_from, is_contradiction}
 use Rattle.lin_proof.specs.declared.multiples.Multiples.{Multiples}
 use Rattle.lin_proof.specs.Multiples.{Cancels, IsLeast, NoneCancel}

@@ -16,13 +16,13 @@ use Rattle.lin_proof.specs.declared.derivation.Ending.{Ending}
 use Rattle.lin_proof.specs.declared.derivation.Ending.TheOpen.{Ending-F, Branch-F, Derivation-F}
 use Rattle.lin_proof.specs.declared.derivation.Ending.TheViews.{roll-Ending, roll-Branch, roll-Derivation}
 use Rattle.lin_proof.specs.declared.derivation.Ending.TheFolds.{map-Ending, ind-Derivation, fold-roll-Ending, fold-roll-Branch, fold-roll-Derivation}
-use Rattle.lin_row.specs.Form.{Form, Terms, terms_value, value, plus, denied, form_fits}
-use Rattle.lin_row.specs.Cut.{divides, cut}
+use Rattle.lin_proof.specs.Form.{Form, Terms, terms_value, value, plus, denied, form_fits}
+use Rattle.lin_proof.specs.Cut.{divides, cut}
 use Rattle.lin_proof.specs.Law.{Meets, Law, EntailmentLaw}
 use Rattle.lin_proof.specs.Derivations.{◌>>=◌, zero_form, add_part, checked_plus, sum_from, cut_of, step_form, run_steps, last_of, is_contradiction, Check, case_form, are_declared, ending_step, branch_step, derivation_step, check_ending, check_branch, check_derivation}
 use Rattle.lin_proof.specs.Entailments.{with_denied}
-use Rattle.lin_row.proofs.Values.{value-plus, value-cut, value-denied}
-use Rattle.lin_row.proofs.Whole.{times_above}
+use Rattle.lin_proof.proofs.Values.{value-plus, value-cut, value-denied}
+use Rattle.lin_proof.proofs.Whole.{times_above}
 
 -- ---- results and options
 

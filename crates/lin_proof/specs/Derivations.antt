@@ -11,8 +11,8 @@ use Rattle.lin_proof.specs.declared.derivation.Branch.{Branch}
 use Rattle.lin_proof.specs.declared.derivation.Ending.{Ending}
 use Rattle.lin_proof.specs.declared.derivation.Ending.TheFolds.{fold-Ending, fold-Derivation, fold-Branch}
 use Rattle.lin_proof.specs.declared.derivation.Ending.TheOpen.{Ending-F, Branch-F, Derivation-F}
-use Rattle.lin_row.specs.Form.{Form, Terms, plus, denied, checked_form}
-use Rattle.lin_row.specs.Cut.{divides, cut}
+use Rattle.lin_proof.specs.Form.{Form, Terms, plus, denied, checked_form}
+use Rattle.lin_proof.specs.Cut.{divides, cut}
 
 infixl 10 ◌>>=◌
 abbrev pub ◌>>=◌ : {A B E : Type 0} → Result A E → (A → Result B E) → Result B E

@@ -1,8 +1,8 @@
 -- Which derivations entail a form by facts, and when a call over its denial gives an answer.
 use Rattle.std.specs.Prelude.{◌≡◌, ℕ, true, false, List, [], ◌∷◌, ◌++◌, Result, Ok, Err}
-use Rattle.lin_row.specs.Form.{Form, denied, form_fits}
-use Rattle.lin_row.specs.declared.row.RowFault.{RowFault}
-use Rattle.lin_row.specs.declared.row.RowFault.TheVariants.{Mem, Coeff}
+use Rattle.lin_proof.specs.Form.{Form, denied, form_fits}
+use Rattle.lin_proof.specs.declared.row.RowFault.{RowFault}
+use Rattle.lin_proof.specs.declared.row.RowFault.TheVariants.{Mem, Coeff}
 use Rattle.lin_proof.specs.declared.derivation.Derivation.{Derivation}
 use Rattle.lin_proof.specs.Derivations.{Refutes}
 

@@ -1,7 +1,7 @@
 -- What a refutation and an entailment say of whole numbers.
 use Rattle.std.specs.Prelude.{◌≡◌, ℕ, ℤ, pos, ◌≤ℤ◌, List, Some, slice_get}
 use Rattle.lin_proof.specs.declared.derivation.Derivation.{Derivation}
-use Rattle.lin_row.specs.Form.{Form, value}
+use Rattle.lin_proof.specs.Form.{Form, value}
 use Rattle.lin_proof.specs.Derivations.{Refutes}
 use Rattle.lin_proof.specs.Entailments.{Entails}
 

@@ -1,6 +1,10 @@
+pub mod Number
+pub mod Form
+pub mod Cut
+pub mod Exact
 pub mod Derivations
 pub mod Entailments
 pub mod Law
-pub mod steps
 pub mod Multiples
 pub mod Pairs
+pub mod steps

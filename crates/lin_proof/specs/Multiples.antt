@@ -1,6 +1,6 @@
 -- Positive multiples of two numbers that cancel each other.
 use Rattle.std.specs.Prelude.{◌≡◌, ℕ, ◌*◌, ◌<◌, ℤ, pos, ◌+ℤ◌, ◌*ℤ◌, ◌<ℤ◌, true}
-use Rattle.lin_row.specs.Number.{in_i128}
+use Rattle.lin_proof.specs.Number.{in_i128}
 use Rattle.lin_proof.specs.declared.multiples.Multiples.{Multiples}
 
 abbrev pub Divides : ℕ → ℕ → Type 0

@@ -1,7 +1,7 @@
 -- Sums of positive multiples of two forms, and which of them are contradictions.
 use Rattle.std.specs.Prelude.{◌≡◌, true, ℕ, ℤ, pos, ◌<ℤ◌, Bool, ◌&&◌, [], ◌∷◌, Option}
-use Rattle.lin_row.specs.Number.{in_i128}
-use Rattle.lin_row.specs.Form.{Form, Terms}
+use Rattle.lin_proof.specs.Number.{in_i128}
+use Rattle.lin_proof.specs.Form.{Form, Terms}
 use Rattle.lin_proof.specs.Derivations.{is_contradiction, sum_from, zero_form}
 use Rattle.lin_proof.specs.declared.multiples.Multiples.{Multiples}
 

@@ -6,8 +6,8 @@ ghost use Rattle.lin_proof.specs.steps.Answers.{wrong_line};
 
 use crate::derivation::{Branch, Derivation, Ending};
 use crate::facts::Facts;
+use crate::row::Row;
 use crate::steps::{Fault, case_row, is_closed, run};
-use lin_row::Row;
 use std::alloc::Global;
 use viz_base::{List, Mem};
 

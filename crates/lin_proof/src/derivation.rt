@@ -1,4 +1,4 @@
-use lin_row::Row;
+use crate::row::Row;
 use viz_base::{Boxed, List};
 
 /// A row made of facts and of earlier rows. Facts are named by their places in the list of facts,

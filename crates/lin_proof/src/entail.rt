@@ -1,5 +1,5 @@
 ghost use Rattle.std.specs.Prelude.{◌≡◌, ◌<◌, ◌≤ℤ◌, ◌↔◌, ◌^◌, ℕ, ℤ, pos, IsTrue, IfOk};
-ghost use Rattle.lin_row.specs.Form.{value};
+ghost use Rattle.lin_proof.specs.Form.{value};
 ghost use Rattle.lin_proof.specs.Derivations.{first_fault, lines_of};
 ghost use Rattle.lin_proof.specs.Entailments.{Entails, IsByDenial, with_denied};
 ghost use Rattle.lin_proof.specs.Law.{Meets};
@@ -7,7 +7,7 @@ ghost use Rattle.lin_proof.specs.Law.{Meets};
 use crate::check::first_fault_among;
 use crate::derivation::Derivation;
 use crate::facts::Facts;
-use lin_row::{Row, RowFault};
+use crate::row::{Row, RowFault};
 use std::alloc::Global;
 use viz_base::Mem;
 

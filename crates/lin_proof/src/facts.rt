@@ -1,7 +1,7 @@
 ghost use Rattle.std.specs.Prelude.{◌≡◌, ◌++◌, slice_get};
 ghost use Rattle.std.specs.Option.{option_copied};
 
-use lin_row::Row;
+use crate::row::Row;
 
 /// Facts in two lists, numbered from 0 through the first and on through the second.
 #[derive(Clone, Copy)]

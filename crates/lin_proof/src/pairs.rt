@@ -1,10 +1,10 @@
 ghost use Rattle.std.specs.Prelude.{◌≡◌, ◌<ℤ◌, [], false, true, pos, Some, ℤ, IfOk, MatchOption};
-ghost use Rattle.lin_row.specs.Form.{IsCanonical, checked_form, plus};
+ghost use Rattle.lin_proof.specs.Form.{IsCanonical, checked_form, plus};
 ghost use Rattle.lin_proof.specs.Derivations.{is_contradiction, zero_form};
 ghost use Rattle.lin_proof.specs.Pairs.{IsBest, IsFirst, closes, sum_of_two};
 
 use crate::multiples::{Multiples, least_multiples};
-use lin_row::{Row, RowFault};
+use crate::row::{Row, RowFault};
 use std::alloc::Global;
 use viz_base::Mem;
 

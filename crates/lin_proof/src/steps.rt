@@ -1,13 +1,13 @@
 ghost use Rattle.std.specs.Prelude.{◌≡◌, ◌+◌, ◌<◌, ◌^◌, ◌++◌, length, take, IfOk, OnOk};
 ghost use Rattle.viz_base.specs.Answers.{Gives};
-ghost use Rattle.lin_row.specs.Form.{checked_form, denied};
+ghost use Rattle.lin_proof.specs.Form.{checked_form, denied};
 ghost use Rattle.lin_proof.specs.Derivations.{add_part, are_declared, case_form, cut_of, is_contradiction, last_of, run_steps, step_form, sum_from, zero_form};
 ghost use Rattle.lin_proof.specs.steps.Answers.{wrong_line};
 
 use crate::derivation::Step;
 use crate::facts::Facts;
 use crate::pairs::{added, is_contradiction};
-use lin_row::{Row, RowFault};
+use crate::row::{Row, RowFault};
 use std::alloc::{AllocError, Global};
 use viz_base::{List, Mem};
 

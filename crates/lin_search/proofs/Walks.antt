@@ -3,7 +3,7 @@ use Rattle.std.proofs.Common.{◌≡◌, ℕ, ◌+◌, ◌<◌, ◌≤◌, List,
 use Rattle.std.specs.Prelude.{slice_get}
 use Rattle.std.proofs.lemmas.Bool.{cases_lt}
 use Rattle.std.proofs.lemmas.Option.{slice_get_within, slice_get_read, same_Some}
-use Rattle.lin_row.specs.Form.{Form}
+use Rattle.lin_proof.specs.Form.{Form}
 
 -- what holds of the forms before a place, and of the one there, holds of those before the next place
 pub each_more : (P : Form → Type 0) (xs : List Form) (i : ℕ) (x : Form) → i < length xs → x ≡ get_or xs i x → ((k : ℕ) (g : Form) → k < i → slice_get xs k ≡ Some g → P g) → P x → (k : ℕ) (g : Form) → k < i + 1 → slice_get xs k ≡ Some g → P g

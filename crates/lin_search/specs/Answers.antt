@@ -1,6 +1,6 @@
 -- What a search for a contradiction among facts answers.
 use Rattle.std.specs.Prelude.{◌≡◌, ℕ, ◌*◌, ◌≤◌, ℤ, pos, false, List, length, Some, slice_get, slice_index_or}
-use Rattle.lin_row.specs.Form.{Form}
+use Rattle.lin_proof.specs.Form.{Form}
 use Rattle.lin_proof.specs.Law.{Meets}
 use Rattle.lin_proof.specs.Derivations.{Refutes, is_contradiction}
 use Rattle.lin_proof.specs.Pairs.{closes}

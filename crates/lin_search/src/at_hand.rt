@@ -1,11 +1,10 @@
 ghost use Rattle.std.specs.Prelude.{◌≡◌, ◌<◌, ◌^◌, ℕ, false, length, List as Seq, [], ◌∷◌, Some, IfOk, MatchOption};
 ghost use Rattle.lin_proof.specs.Derivations.{Refutes, is_contradiction};
 ghost use Rattle.lin_search.specs.Answers.{NoneAtHand};
-ghost use Rattle.lin_row.specs.Form.{Form};
+ghost use Rattle.lin_proof.specs.Form.{Form};
 ghost use Rattle.lin_search.specs.steps.Pairs.{HasPartner, IsAlone, IsPair, NoPartner, NoneAlone, NonePaired};
 
-use lin_proof::{Derivation, Ending, Multiples, Step, closing, is_contradiction};
-use lin_row::Row;
+use lin_proof::{Derivation, Ending, Multiples, Row, Step, closing, is_contradiction};
 use std::alloc::Global;
 use viz_base::{List, Mem};
 

@@ -1,9 +1,9 @@
 ghost use Rattle.std.specs.Prelude.{◌≡◌, IfSome, IsTrue, pos, ◌+ℤ◌, ◌*ℤ◌, ◌≤ℤ◌};
-ghost use Rattle.lin_row.specs.Form.{value};
+ghost use Rattle.lin_proof.specs.Form.{value};
 ghost use Rattle.lin_proof.specs.Law.{Meets};
 ghost use Rattle.lin_search.specs.Answers.{at_point};
 
-use lin_row::Row;
+use lin_proof::Row;
 
 /// Whether the values of the variables meet all facts. False also where a number on the way is outside `i128`, or a
 /// variable has no value.

@@ -2,8 +2,7 @@ use crate::outline::Outline;
 use crate::ranges::{first_unmet, ranges_of};
 use crate::sources::{Bounds, Range, Source, View};
 use crate::sums::Sums;
-use lin_proof::{Branch, Derivation, Ending, Step};
-use lin_row::{Row, RowFault};
+use lin_proof::{Branch, Derivation, Ending, Row, RowFault, Step};
 use std::alloc::{AllocError, Global};
 use viz_base::{Boxed, List, Mem};
 

@@ -1,5 +1,5 @@
 use crate::sources::{Bounds, Source, floor_by, top_term};
-use lin_row::Row;
+use lin_proof::Row;
 use std::alloc::{AllocError, Global};
 
 /// What facts say, read once: which of them bound a variable, and which do not.

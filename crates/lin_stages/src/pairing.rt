@@ -1,6 +1,6 @@
 use crate::sources::Source;
 use crate::sums::{Manner, Part, Sums};
-use lin_row::Row;
+use lin_proof::Row;
 
 impl Sums<'_> {
     /// A contradiction from the row of `start` and one of the splits, a variable of both being taken away first.

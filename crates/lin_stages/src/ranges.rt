@@ -1,5 +1,5 @@
 use crate::sources::{Range, Source, View, floor_by, top_term};
-use lin_row::Row;
+use lin_proof::Row;
 use std::alloc::{AllocError, Global};
 
 /// The range of each variable by what bounds it, from the lowest variable up.

@@ -1,4 +1,4 @@
-use lin_row::Row;
+use lin_proof::Row;
 
 /// A row of which a sum takes a multiple.
 #[derive(Clone, Copy)]

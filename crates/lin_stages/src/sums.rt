@@ -1,7 +1,6 @@
 use crate::sources::{Source, Top, View, end_of, top_term};
 use crate::writing::written;
-use lin_proof::{Step, added, is_contradiction, least_multiples, multiple};
-use lin_row::Row;
+use lin_proof::{Row, Step, added, is_contradiction, least_multiples, multiple};
 use std::alloc::{AllocError, Global};
 use viz_base::{List, Mem};
 

@@ -3,8 +3,7 @@ use crate::outline::Outline;
 use crate::proposal::Proposal;
 use crate::sources::{Source, View};
 use crate::sums::Sums;
-use lin_proof::Derivation;
-use lin_row::Row;
+use lin_proof::{Derivation, Row};
 use std::alloc::{AllocError, Global};
 use viz_base::{List, Mem};
 

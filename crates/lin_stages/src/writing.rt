@@ -1,7 +1,6 @@
 use crate::sources::{Bounds, Source, View, end_of};
 use crate::sums::{Part, Sum, Sums};
-use lin_proof::Step;
-use lin_row::Row;
+use lin_proof::{Row, Step};
 use std::alloc::Global;
 use viz_base::{List, Mem};
 

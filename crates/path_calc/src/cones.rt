@@ -1,4 +1,4 @@
-use lin_row::{Row, RowFault};
+use lin_proof::{Row, RowFault};
 use std::alloc::{AllocError, Global};
 use sym_calc::{Floor, Floors};
 use viz_base::Mem;

@@ -2,7 +2,7 @@ ghost use Rattle.std.specs.Prelude.{◌≡◌, ◌+◌, IfSome, length};
 ghost use Rattle.cert_path.specs.Axes.{axis_count};
 
 use cert_path::{axis_count, variable_of};
-use lin_row::Row;
+use lin_proof::Row;
 use std::alloc::Global;
 use sym_calc::Path;
 use viz_base::{Axis, Mem};

@@ -1,7 +1,6 @@
 use crate::cones::plus;
 use crate::trail::{Found, Spot};
-use lin_proof::{Answer, Branch, Derivation, Ending, Step};
-use lin_row::{Row, RowFault};
+use lin_proof::{Answer, Branch, Derivation, Ending, Row, RowFault, Step};
 use std::alloc::Global;
 use viz_base::{Boxed, List, Mem};
 

@@ -6,8 +6,7 @@ use crate::pool::Pool;
 use crate::trail::Found;
 use crate::trouble::Trouble;
 use cert_path::variable_of;
-use lin_proof::Answer;
-use lin_row::Row;
+use lin_proof::{Answer, Row};
 use viz_base::{Axis, List, Mem};
 use viz_calc::{Calc, Halt};
 

@@ -1,4 +1,4 @@
-use lin_row::RowFault;
+use lin_proof::RowFault;
 use std::alloc::{AllocError, AllocFailed};
 use viz_base::Mem;
 

@@ -1,4 +1,4 @@
-use lin_row::Row;
+use lin_proof::Row;
 
 /// The value of a row at values of the variables, by their numbers. None where a number on the way is outside `i128`,
 /// or a variable has no value.

@@ -2,7 +2,7 @@
 use crate::runs::truth_over;
 use crate::seeking::middle_and_ends;
 use cert_path::{axis_count, axis_of};
-use lin_row::Row;
+use lin_proof::Row;
 use path_calc::Digesting;
 use std::alloc::{AllocError, Global};
 use sym_calc::{Floor, Path};

@@ -3,7 +3,7 @@ ghost use Rattle.std.specs.Prelude.{◌≡◌};
 
 use crate::seeking::{Place, Stop, cut_once, open_premise};
 use cert_path::cut_of;
-use lin_row::Row;
+use lin_proof::Row;
 use path_calc::{Known, Opening, Pool};
 use viz_base::{Rect, World};
 

@@ -7,7 +7,7 @@ use crate::seeking::{
     GRID, Part, Place, Stop, below, count_of, enter, explore, first_pool, halving, leave, put_split,
 };
 use crate::tiling::grid_count;
-use lin_row::Row;
+use lin_proof::Row;
 use path_calc::Pool;
 use viz_base::{Child, Rect};
 

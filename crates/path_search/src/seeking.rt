@@ -7,8 +7,7 @@ use crate::slices::{ends_met, pools_under, slices_of};
 use crate::tiling::{Cut, cut_of_flat, cut_of_tiles};
 use cert_path::{axis_of, cut_of, variable_of};
 use cert_text::{Cert, CertNode};
-use lin_proof::Derivation;
-use lin_row::{Row, RowFault};
+use lin_proof::{Derivation, Row, RowFault};
 use lin_search::{Search, refute};
 use path_calc::{
     Footing, Found, Known, LIMIT, Opening, Pool, Seeker, floor_of, value_of, variable_count,

@@ -1,7 +1,7 @@
 //! The worlds of a path size by size, at some heights: the ends of its widths show both signs of nearly each row that
 //! has both, since at one size and height a row of text is linear in the width.
 use crate::seeking::{Place, Stop, add_floors, meets_facts};
-use lin_row::Row;
+use lin_proof::Row;
 use path_calc::{Known, Pool, Slice, value_of};
 use std::alloc::{AllocError, Global};
 use viz_base::{Rect, World, middle};

@@ -14,8 +14,8 @@ use Rattle.viz_base.specs.declared.worlds.Rect.{Rect}
 use Rattle.viz_base.specs.declared.jobs.Job.{Job}
 use Rattle.viz_base.proofs.ListLemmas.{all_append}
 use Rattle.viz_base.specs.Worlds.{IsInRange, side_of, span_count, world_count}
-use Rattle.lin_row.specs.Form.{Form, denied, form_fits}
-use Rattle.lin_row.specs.Number.{in_i128}
+use Rattle.lin_proof.specs.Form.{Form, denied, form_fits}
+use Rattle.lin_proof.specs.Number.{in_i128}
 use Rattle.cert_text.specs.declared.certificate.CertNode.{CertNode}
 use Rattle.cert_text.specs.declared.certificate.CertNode.TheVariants.{Grid, Split}
 use Rattle.cert_text.specs.declared.certificate.CertNode.TheViews.{the_lemmas}

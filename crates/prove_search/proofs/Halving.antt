@@ -11,7 +11,7 @@ use Rattle.viz_base.specs.declared.worlds.Axis.TheVariants.{Width, Size, Height}
 use Rattle.viz_base.specs.declared.worlds.Span.{Span}
 use Rattle.viz_base.specs.declared.worlds.Rect.{Rect}
 use Rattle.viz_base.specs.Worlds.{along, side_of, with_side, span_count, world_count, IsInRange}
-use Rattle.lin_row.specs.Form.{denied}
+use Rattle.lin_proof.specs.Form.{denied}
 use Rattle.cert_path.specs.Axes.{variable_of, axis_count}
 use Rattle.cert_path.specs.Rectangles.{Side, whole, left_by}
 use Rattle.viz_base.specs.Rectangles.{IsWithin, IsProper}

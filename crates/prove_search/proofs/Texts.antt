@@ -5,7 +5,7 @@ use Rattle.std.proofs.lemmas.Fmt.{length-decimal-le}
 use Rattle.std.proofs.lemmas.Bool.Decides.{Decides-ltb}
 use Rattle.viz_base.specs.declared.worlds.Axis.{Axis}
 use Rattle.viz_base.specs.declared.worlds.Axis.TheVariants.{Width, Size, Height}
-use Rattle.lin_row.specs.Number.{in_i128}
+use Rattle.lin_proof.specs.Number.{in_i128}
 use Rattle.cert_path.specs.Axes.{variable_of}
 use Rattle.cert_text.specs.Texts.{row_has_text}
 use Rattle.cert_text.specs.steps.Write.{row_bytes}

@@ -13,7 +13,7 @@ use crate::outcome::Outcome;
 use cert_check::first_untrue;
 use cert_path::variable_of;
 use cert_text::{Cert, CertNode, write_cert};
-use lin_row::Row;
+use lin_proof::Row;
 use std::alloc::Global;
 use viz_base::{Axis, Boxed, Job, Mem, Rect, World, halves_of, world_count};
 

@@ -10,7 +10,7 @@ use Rattle.viz_base.specs.declared.worlds.Span.{Span}
 use Rattle.viz_base.specs.declared.worlds.Rect.{Rect}
 use Rattle.viz_base.specs.Worlds.{along, side_of, IsInRange}
 use Rattle.viz_base.specs.Jobs.{IsFormed}
-use Rattle.lin_row.specs.Form.{Form, denied}
+use Rattle.lin_proof.specs.Form.{Form, denied}
 use Rattle.lin_proof.specs.Derivations.{are_declared}
 use Rattle.cert_path.specs.Axes.{variable_of, axes, axis_count}
 use Rattle.cert_path.specs.Paths.{def, first, second, lemma, Path as Steps, root, ◌▸◌, form_of, variables, with_floor, values_along, IsOn}

@@ -2,8 +2,8 @@
 use Rattle.std.proofs.Common.{◌≡◌, ℕ, ℤ, pos, negsuc, ◌+ℤ◌, ◌*ℤ◌, ◌≤ℤ◌, ◌<ℤ◌, Bool, true, false, ◌&&◌, List, [], ◌∷◌, ◌++◌, None, refl, sym, ◌∙◌, ap, arith}
 use Rattle.std.specs.Int.RustNames.{int_le}
 use Rattle.std.proofs.lemmas.Int.{ints}
-use Rattle.lin_row.specs.Form.{Form, value}
-use Rattle.lin_row.proofs.Values.{value-denied}
+use Rattle.lin_proof.specs.Form.{Form, value}
+use Rattle.lin_proof.proofs.Values.{value-denied}
 use Rattle.lin_proof.specs.declared.derivation.Derivation.{Derivation}
 use Rattle.lin_proof.specs.Derivations.{first_fault}
 use Rattle.lin_proof.proofs.Sound.{law}

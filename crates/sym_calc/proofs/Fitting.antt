@@ -5,7 +5,7 @@ use Rattle.std.specs.List.{list_any, position_or_len}
 use Rattle.std.proofs.lemmas.List.Folds.{list_any-append}
 use Rattle.viz_calc.specs.declared.calc.Halt.{Halt}
 use Rattle.viz_calc.specs.declared.calc.Halt.TheVariants.{Mem, Coeff, Open}
-use Rattle.lin_row.specs.Form.{Form, Terms, form_fits, plus}
+use Rattle.lin_proof.specs.Form.{Form, Terms, form_fits, plus}
 use Rattle.lin_proof.specs.Derivations.{are_declared}
 use Rattle.cert_path.specs.Axes.{axis_count}
 use Rattle.cert_path.specs.Facts.{row_of}

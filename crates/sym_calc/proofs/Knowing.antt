@@ -13,7 +13,7 @@ use Rattle.std.proofs.lemmas.Option.{same_Some}
 use Rattle.viz_base.specs.declared.worlds.World.{World}
 use Rattle.viz_base.specs.Worlds.{along}
 use Rattle.viz_calc.specs.World.{Reading}
-use Rattle.lin_row.specs.Form.{Form, value, plus}
+use Rattle.lin_proof.specs.Form.{Form, value, plus}
 use Rattle.lin_proof.specs.Derivations.{are_declared}
 use Rattle.cert_path.specs.Axes.{axis_count, variable_of}
 use Rattle.cert_path.specs.Paths.{def, with_value, with_floor, values_at}

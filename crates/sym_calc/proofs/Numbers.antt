@@ -2,8 +2,8 @@
 use Rattle.std.proofs.Common.{◌≡◌, ℕ, ℤ, pos, negsuc, ◌+ℤ◌, ◌-ℤ◌, ◌*ℤ◌, [], ◌∙◌, ap, arith}
 use Rattle.std.specs.Int.RustNames.{int_le}
 use Rattle.std.proofs.lemmas.Int.{ints}
-use Rattle.lin_row.specs.Form.{Form, terms_value, value, plus}
-use Rattle.lin_row.proofs.Values.{value-plus}
+use Rattle.lin_proof.specs.Form.{Form, terms_value, value, plus}
+use Rattle.lin_proof.proofs.Values.{value-plus}
 use Rattle.sym_calc.proofs.Answering.{le_by_difference}
 
 pub sum_at : (f g : Form) (v : ℕ → ℤ) → value (plus f (pos 1) g) v ≡ value f v +ℤ value g v

@@ -4,10 +4,10 @@ use Rattle.std.specs.Ordering.{int_eq}
 use Rattle.std.specs.Int.{int_div_euclid, int_rem_euclid}
 use Rattle.std.proofs.lemmas.Int.{ints}
 use Rattle.std.proofs.lemmas.List.{take_more}
-use Rattle.lin_row.specs.Form.{Form, Terms, terms_value, value, put, plus, IsAbove, IsCanonical}
-use Rattle.lin_row.proofs.Sums.{IsAbove-put, IsCanonical-put}
-use Rattle.lin_row.proofs.Values.{terms_value-put, value-plus}
-use Rattle.lin_row.proofs.Whole.{distribute, distribute_left, associate, div_below}
+use Rattle.lin_proof.specs.Form.{Form, Terms, terms_value, value, put, plus, IsAbove, IsCanonical}
+use Rattle.lin_proof.proofs.Sums.{IsAbove-put, IsCanonical-put}
+use Rattle.lin_proof.proofs.Values.{terms_value-put, value-plus}
+use Rattle.lin_proof.proofs.Whole.{distribute, distribute_left, associate, div_below}
 use Rattle.cert_path.specs.Facts.{row_of}
 use Rattle.cert_path.proofs.Values.{one_floor}
 use Rattle.sym_calc.specs.Division.{changed, quotient_terms, remainder_terms, quotient, remainder}

@@ -6,7 +6,7 @@ use Rattle.std.specs.Int.Signed.{lt_z}
 use Rattle.std.specs.List.{list_all}
 use Rattle.std.proofs.lemmas.Int.{ints}
 use Rattle.std.proofs.lemmas.Bool.Decides.{nat_tests}
-use Rattle.lin_row.specs.Form.{Form, Terms}
+use Rattle.lin_proof.specs.Form.{Form, Terms}
 use Rattle.cert_path.specs.Shapes.{is_remainder, has_remainders, has_variable}
 use Rattle.sym_calc.specs.Division.{remainder_terms, remainder}
 

@@ -7,9 +7,9 @@ use Rattle.std.proofs.lemmas.Option.{slice_get-get_or}
 use Rattle.viz_calc.specs.World.{Reading}
 use Rattle.viz_calc.specs.State.{State, Grows, KeepsWorlds}
 use Rattle.viz_calc.specs.declared.calc.Halt.{Halt}
-use Rattle.lin_row.specs.Form.{Form, value}
-use Rattle.lin_row.specs.Exact.{IsExact}
-use Rattle.lin_row.specs.declared.row.RowFault.{RowFault}
+use Rattle.lin_proof.specs.Form.{Form, value}
+use Rattle.lin_proof.specs.Exact.{IsExact}
+use Rattle.lin_proof.specs.declared.row.RowFault.{RowFault}
 use Rattle.lin_proof.specs.Derivations.{are_declared}
 use Rattle.cert_path.specs.Axes.{axis_count}
 use Rattle.cert_path.specs.Paths.{def}

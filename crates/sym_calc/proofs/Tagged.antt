@@ -1,7 +1,7 @@
 -- Two paths and tapes with one number are the same.
 use Rattle.std.proofs.Common.{◌≡◌, ℕ, zero, suc, ◌≤◌, List, refl, ap, arith}
 use base.Stored.{Gv, gnil, gnum, gcons}
-use Rattle.lin_row.specs.Form.{Form}
+use Rattle.lin_proof.specs.Form.{Form}
 use Rattle.lin_proof.specs.declared.derivation.Answer.{Answer}
 use Rattle.sym_calc.specs.declared.floors.Floor.{Floor}
 use Rattle.sym_calc.specs.Tags.{pair, number_of, given_code, tag}

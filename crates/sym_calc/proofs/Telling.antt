@@ -9,7 +9,7 @@ use Rattle.std.proofs.lemmas.Int.{ints}
 use Rattle.std.proofs.lemmas.Bool.{and_parts}
 use Rattle.std.proofs.lemmas.List.Folds.{list_all-append}
 use Rattle.std.proofs.lemmas.Option.{same_Some}
-use Rattle.lin_row.specs.Form.{Terms, terms_value, value}
+use Rattle.lin_proof.specs.Form.{Terms, terms_value, value}
 use Rattle.sym_calc.specs.declared.told.Alike.{Alike}
 use Rattle.sym_calc.specs.declared.told.Told.{Told}
 use Rattle.sym_calc.specs.Same.{decides_equal_terms}

@@ -1,7 +1,7 @@
 -- What a symbolic calc is for its contracts.
 use Rattle.std.specs.Prelude.{◌≡◌, ℕ, ◌+◌, Bool, true, not, ◌&&◌, ◌||◌, List, ◌++◌, length, Option, Some, None, is_none, slice_get, if◌then◌else◌}
 use Rattle.viz_calc.specs.State.{State}
-use Rattle.lin_row.specs.Form.{Form, form_fits}
+use Rattle.lin_proof.specs.Form.{Form, form_fits}
 use Rattle.lin_proof.specs.declared.derivation.Answer.{Answer}
 use Rattle.cert_path.specs.Axes.{axis_count}
 use Rattle.cert_path.specs.Shapes.{has_variable}

@@ -1,7 +1,7 @@
 -- Rows divided by a number d above 0 and rounded down, over floors that are named.
 use Rattle.std.specs.Prelude.{ℕ, ◌+◌, ℤ, pos, Bool, true, ◌&&◌, ◌||◌, List, [], length, if◌then◌else◌}
 use Rattle.std.specs.List.{list_any, position_or_len}
-use Rattle.lin_row.specs.Form.{Form, form_fits, plus}
+use Rattle.lin_proof.specs.Form.{Form, form_fits, plus}
 use Rattle.lin_proof.specs.Derivations.{are_declared}
 use Rattle.cert_path.specs.Axes.{axis_count}
 use Rattle.cert_path.specs.Facts.{row_of}

@@ -1,7 +1,7 @@
 -- Forms divided by a whole number d above 0, rest and all: a form is d times its quotient plus its remainder.
 use Rattle.std.specs.Prelude.{ℤ, [], ◌∷◌}
 use Rattle.std.specs.Int.{int_div_euclid, int_rem_euclid}
-use Rattle.lin_row.specs.Form.{Form, Terms, put}
+use Rattle.lin_proof.specs.Form.{Form, Terms, put}
 
 -- the terms with each coefficient changed; those whose coefficient becomes 0 are left out
 abbrev pub changed : (ℤ → ℤ) → Terms → Terms

@@ -3,7 +3,7 @@ use Rattle.std.specs.Prelude.{◌≡◌, ℕ, Bool, true, false, Result, Ok, Err
 use Rattle.viz_base.specs.Numbers.{Rose}
 use Rattle.viz_calc.specs.declared.calc.Halt.{Halt}
 use Rattle.viz_calc.specs.declared.calc.Halt.TheVariants.{Mem, Coeff, Open}
-use Rattle.lin_row.specs.Form.{Form, form_fits}
+use Rattle.lin_proof.specs.Form.{Form, form_fits}
 
 -- Ok: the exact row, each of its numbers being in `i128`; Coeff: a number of it is not; want of memory says nothing
 abbrev pub IsGiven : Result Form Halt → Form → Type 0

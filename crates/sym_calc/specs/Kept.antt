@@ -11,7 +11,7 @@ use Rattle.viz_base.specs.declared.worlds.Axis.{Axis}
 use Rattle.viz_base.specs.declared.worlds.Axis.TheVariants.{Width, Size, Height}
 use Rattle.viz_base.specs.Worlds.{along}
 use Rattle.viz_calc.specs.World.{Reading}
-use Rattle.lin_row.specs.Form.{Form, value}
+use Rattle.lin_proof.specs.Form.{Form, value}
 use Rattle.cert_path.specs.Axes.{axis_count, number_on, variable_of}
 use Rattle.cert_path.specs.Paths.{with_floor, values_at}
 use Rattle.cert_path.proofs.Values.{with_old}

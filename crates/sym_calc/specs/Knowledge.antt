@@ -9,7 +9,7 @@ use Rattle.viz_base.specs.declared.worlds.Axis.TheVariants.{Height}
 use Rattle.viz_base.specs.Worlds.{along}
 use Rattle.viz_calc.specs.World.{Reading}
 use Rattle.viz_calc.specs.State.{State}
-use Rattle.lin_row.specs.Form.{Form, value, denied}
+use Rattle.lin_proof.specs.Form.{Form, value, denied}
 use Rattle.cert_path.specs.Axes.{variable_of, axes, axis_count}
 use Rattle.cert_path.specs.Facts.{row_of}
 use Rattle.sym_calc.specs.declared.floors.Floor.{Floor}

@@ -5,7 +5,7 @@ use Rattle.viz_base.specs.declared.worlds.Rect.{Rect}
 use Rattle.viz_base.specs.Jobs.{IsFormed}
 use Rattle.viz_calc.specs.World.{Reading}
 use Rattle.viz_base.specs.Worlds.{IsInRange}
-use Rattle.lin_row.specs.Form.{Form}
+use Rattle.lin_proof.specs.Form.{Form}
 use Rattle.lin_proof.specs.declared.derivation.Answer.{Answer}
 use Rattle.lin_proof.specs.Derivations.{first_fault}
 use Rattle.cert_path.specs.Paths.{Path as Steps, ◌▸◌, form_of, variables, IsOn, AreSound}

@@ -7,7 +7,7 @@ use Rattle.std.specs.Cmp.{IsEquivalence, decided}
 use Rattle.std.specs.Ordering.{int_eq}
 use Rattle.std.proofs.Common.{ap}
 use Rattle.std.proofs.lemmas.Bool.Decides.{Decides-and, Decides-int_eq}
-use Rattle.lin_row.specs.Form.{Form, Terms}
+use Rattle.lin_proof.specs.Form.{Form, Terms}
 use Rattle.cert_path.specs.Shapes.{same_row}
 use Rattle.cert_path.proofs.FitDefs.{decides_same_row}
 use Rattle.sym_calc.specs.declared.floors.Floor.{Floor}

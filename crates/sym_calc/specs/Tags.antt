@@ -2,8 +2,8 @@
 use Rattle.std.specs.Prelude.{ℕ, zero, suc, ◌+◌, List}
 use Rattle.std.specs.Coded.{Coded, coded_list, coded×}
 use base.Stored.{Gv, gnil, gnum, gcons}
-use Rattle.lin_row.specs.Form.{Form}
-use Rattle.lin_row.specs.contracts.row.Row as a_row
+use Rattle.lin_proof.specs.Form.{Form}
+use Rattle.lin_proof.specs.contracts.row.Row as a_row
 use Rattle.lin_proof.specs.declared.derivation.Answer.{Answer}
 use Rattle.lin_proof.specs.contracts.derivation.Answer as an_answer
 use Rattle.sym_calc.specs.declared.floors.Floor.{Floor}

@@ -7,7 +7,7 @@ use Rattle.std.specs.Int.RustNames.{int_le}
 use Rattle.std.specs.Cmp.Lexicographic.{pointwise}
 use Rattle.indexmap.specs.IndexSet.{replace_key}
 use Rattle.viz_calc.specs.World.{Reading}
-use Rattle.lin_row.specs.Form.{Form, Terms, value}
+use Rattle.lin_proof.specs.Form.{Form, Terms, value}
 use Rattle.sym_calc.specs.declared.paths.Origin.{Origin}
 use Rattle.sym_calc.specs.declared.told.Alike.{Alike}
 use Rattle.sym_calc.specs.declared.told.Told.{Told}

@@ -1,8 +1,8 @@
 ghost use Rattle.std.specs.Prelude.{◌≡◌, ◌<ℤ◌, ◌++◌, [], pos, IfOk, OnOk};
-ghost use Rattle.lin_row.specs.Form.{put};
+ghost use Rattle.lin_proof.specs.Form.{put};
 ghost use Rattle.sym_calc.specs.Division.{quotient, quotient_terms, remainder, remainder_terms};
 
-use lin_row::{Row, Terms};
+use lin_proof::{Row, Terms};
 use std::alloc::{AllocError, Global};
 
 /// A row with each of its numbers divided by a number above 0 and rounded down.

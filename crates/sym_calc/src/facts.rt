@@ -1,14 +1,14 @@
 ghost use Rattle.std.specs.Prelude.{◌≡◌, ◌<ℤ◌, ◌-ℤ◌, ◌++◌, [], ◌∷◌, false, true, pos, negsuc, Err, OnOk, OnErr};
 ghost use Rattle.std.specs.List.{list_any};
-ghost use Rattle.lin_row.specs.Form.{plus};
-ghost use Rattle.lin_row.specs.Exact.{IsExact};
+ghost use Rattle.lin_proof.specs.Form.{plus};
+ghost use Rattle.lin_proof.specs.Exact.{IsExact};
 ghost use Rattle.cert_path.specs.Paths.{def};
 ghost use Rattle.cert_path.specs.Facts.{row_of, step_facts};
-ghost use Rattle.lin_row.specs.declared.row.RowFault.TheVariants.{Coeff};
+ghost use Rattle.lin_proof.specs.declared.row.RowFault.TheVariants.{Coeff};
 ghost use Rattle.sym_calc.specs.Floors.{same_floor, floor_fits};
 
 use crate::floors::{Floor, Floors};
-use lin_row::{Row, RowFault};
+use lin_proof::{Row, RowFault};
 use std::alloc::AllocError;
 use viz_base::{List, Mem};
 

@@ -4,7 +4,7 @@ ghost use Rattle.std.specs.Option.{option_copied};
 ghost use Rattle.cert_path.specs.Shapes.{same_row};
 
 use indexmap::IndexSet;
-use lin_row::Row;
+use lin_proof::Row;
 use std::alloc::Global;
 use std::hash::{Hash, Hasher};
 use std::marker::Model;

@@ -3,7 +3,7 @@ ghost use Rattle.std.specs.List.{find};
 ghost use Rattle.std.specs.Option.{option_copied};
 
 use indexmap::IndexSet;
-use lin_row::Row;
+use lin_proof::Row;
 use std::alloc::Global;
 use std::hash::{Hash, Hasher};
 use std::marker::Model;

@@ -1,4 +1,4 @@
-use lin_row::Row;
+use lin_proof::Row;
 
 /// Why a comparison is left open. Answers and lines are numbered from 0.
 #[derive(Drop)]

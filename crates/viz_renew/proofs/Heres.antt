@@ -4,7 +4,7 @@ use Rattle.std.specs.Prelude.{IfSome}
 use Rattle.std.specs.Option.{option_and_then}
 use Rattle.viz_base.specs.declared.jobs.Job.{Job}
 use Rattle.viz_base.specs.declared.worlds.Rect.{Rect}
-use Rattle.lin_row.specs.Form.{Form}
+use Rattle.lin_proof.specs.Form.{Form}
 use Rattle.cert_path.specs.Paths.{def, lemma, root, ◌▸◌, variables}
 use Rattle.cert_path.specs.Axes.{axis_count}
 use Rattle.cert_path.specs.Rectangles.{rectangle}

@@ -3,7 +3,7 @@ use Rattle.std.proofs.Common.{◌≡◌, ◌∙◌, ℕ, Bool, true, false, IsTr
 use Rattle.std.specs.Prelude.{◌↔◌}
 use Rattle.viz_base.specs.declared.jobs.Job.{Job}
 use Rattle.viz_base.proofs.Truths.{not_both}
-use Rattle.lin_row.specs.Form.{Form}
+use Rattle.lin_proof.specs.Form.{Form}
 use Rattle.lin_proof.specs.declared.derivation.Derivation.{Derivation}
 use Rattle.lin_proof.specs.declared.derivation.Answer.{Answer}
 use Rattle.lin_proof.proofs.Sound.{entailment_law}

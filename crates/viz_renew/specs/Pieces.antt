@@ -2,7 +2,7 @@
 use Rattle.std.specs.Prelude.{◌≡◌, ◌↔◌, ℕ, ◌+◌, Bool, true, ◌&&◌, IsTrue, List, [], ◌∷◌, if◌then◌else◌, ⊤}
 use Rattle.viz_base.specs.declared.jobs.Job.{Job}
 use Rattle.viz_base.specs.declared.worlds.Rect.{Rect}
-use Rattle.lin_row.specs.Form.{form_fits, denied}
+use Rattle.lin_proof.specs.Form.{form_fits, denied}
 use Rattle.cert_text.specs.declared.certificate.Cert.{Cert}
 use Rattle.cert_path.specs.Paths.{Step, def, first, second, lemma, Path, root, ◌▸◌}
 use Rattle.cert_path.specs.Nodes.{Decision, names, splits, states, is_empty, by_worlds, by_answers, Node, nodes_of}

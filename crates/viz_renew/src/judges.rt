@@ -1,7 +1,7 @@
 //! What is asked of a node for those below it, and of a grid and a leaf for themselves.
 ghost use Rattle.std.specs.Prelude.{◌≡◌, ◌<◌, ◌^◌, ◌&&◌, ℕ, IfOk, IfSome, IsTrue};
 ghost use Rattle.viz_base.specs.declared.jobs.Job.{Job};
-ghost use Rattle.lin_row.specs.Form.{denied, form_fits};
+ghost use Rattle.lin_proof.specs.Form.{denied, form_fits};
 ghost use Rattle.cert_path.specs.Derived.{IsEntailed};
 ghost use Rattle.cert_path.specs.Nodes.{by_answers, by_worlds, Node, node_on, splits};
 ghost use Rattle.cert_path.specs.Paths.{variables};
@@ -16,8 +16,7 @@ ghost use Rattle.viz_renew.specs.steps.Bare.{IsFoundGood};
 use cert_check::{
     Descent, Stop, check_answers, check_grid, check_lemma, has_denial, is_shaped_row,
 };
-use lin_proof::{Answer, Derivation};
-use lin_row::Row;
+use lin_proof::{Answer, Derivation, Row};
 use std::alloc::Global;
 use viz_base::{Mem, Rect};
 

@@ -15,8 +15,7 @@ use crate::here::Here;
 use crate::judges::{is_derived, is_firm_row, is_good_grid, is_good_leaf};
 use cert_check::{Descent, child_part, is_shaped_def};
 use cert_text::CertNode;
-use lin_proof::{Answer, Derivation};
-use lin_row::Row;
+use lin_proof::{Answer, Derivation, Row};
 use viz_base::{Child, Mem};
 
 /// Counts a node and all below it, none of which is kept.

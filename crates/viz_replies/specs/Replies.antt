@@ -22,7 +22,7 @@ use Rattle.viz_replies.specs.declared.reply.Answer.TheVariants as ends
 use Rattle.viz_replies.specs.declared.question.Question.{Question}
 use Rattle.viz_replies.specs.declared.question.Screen.{Screen}
 use Rattle.viz_replies.specs.declared.question.Question.TheVariants as asks
-use Rattle.lin_row.specs.Form.{Form}
+use Rattle.lin_proof.specs.Form.{Form}
 use Rattle.viz_replies.specs.Lines.{numbered, spaced}
 use Rattle.viz_replies.specs.Screens.{world_in, spaced_world, spaced_part}
 use Rattle.viz_replies.specs.Jobs.{SpellJobs, SpellsJobAt, AreNoJobs, IsNoJobAt}

@@ -9,7 +9,7 @@ use crate::lines::{push_number, push_world};
 use crate::reply::{Answer, Reply};
 use cert_check::Reject;
 use cert_text::push_row;
-use lin_row::Row;
+use lin_proof::Row;
 use std::alloc::{AllocError, Global};
 use viz_base::{Mem, World};
 

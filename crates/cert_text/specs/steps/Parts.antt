@@ -1,6 +1,6 @@
 -- Reading rows and derivations, one reader for each part of the grammar.
 use Rattle.std.specs.Prelude.{ℕ, zero, suc, ◌+◌, ◌-◌, ◌^◌, ◌==◌, nat_lt, ℤ, pos, Bool, true, false, cond, ◌&&◌, ◌||◌, List, [], ◌∷◌, ◌++◌, length, codes, Option, Some, None, if◌then◌else◌}
-use Rattle.lin_row.specs.Form.{Form, Terms}
+use Rattle.lin_proof.specs.Form.{Form, Terms}
 use Rattle.lin_proof.specs.declared.derivation.Step.{Step}
 use Rattle.lin_proof.specs.declared.derivation.Step.TheVariants.{Fact, Sum, Cut}
 use Rattle.lin_proof.specs.declared.derivation.Derivation.{Derivation}

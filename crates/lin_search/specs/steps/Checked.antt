@@ -1,6 +1,6 @@
 -- What is right about an answer that was checked.
 use Rattle.std.specs.Prelude.{◌≡◌, ℕ, List, length, ⊤}
-use Rattle.lin_row.specs.Form.{Form}
+use Rattle.lin_proof.specs.Form.{Form}
 use Rattle.lin_proof.specs.Law.{Meets}
 use Rattle.lin_proof.specs.Derivations.{Refutes}
 use Rattle.lin_search.specs.declared.answer.Search.{Search}

@@ -1,6 +1,6 @@
 -- Which facts, and which pairs of facts, are contradictions.
 use Rattle.std.specs.Prelude.{◌≡◌, true, false, ℕ, ℤ, List, Some, slice_get}
-use Rattle.lin_row.specs.Form.{Form}
+use Rattle.lin_proof.specs.Form.{Form}
 use Rattle.lin_proof.specs.declared.multiples.Multiples.{Multiples}
 use Rattle.lin_proof.specs.Derivations.{is_contradiction}
 use Rattle.lin_search.specs.declared.at_hand.Pair.{Pair}

@@ -2,7 +2,7 @@
 use Rattle.std.specs.Prelude.{◌≡◌, ℕ, ◌+◌, ◌<◌, ◌^◌, true, ◌++◌, IfSome}
 use Rattle.viz_base.specs.declared.jobs.Job.{Job}
 use Rattle.cert_text.specs.declared.certificate.CertNode.{CertNode}
-use Rattle.lin_row.specs.Form.{Form}
+use Rattle.lin_proof.specs.Form.{Form}
 use Rattle.cert_path.specs.Nodes.{nodes_from}
 use Rattle.cert_path.specs.Paths.{Step, first, second, Path, ◌▸◌, variables}
 use Rattle.cert_path.specs.Rectangles.{rectangle}

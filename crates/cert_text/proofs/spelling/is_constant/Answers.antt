@@ -1,6 +1,6 @@
 use Rattle.std.proofs.Common.{sym, FitsSigned}
 use Rattle.std.specs.Int.{w128}
-use Rattle.lin_row.proofs.Opposites.{in_i128-fit}
+use Rattle.lin_proof.proofs.Opposites.{in_i128-fit}
 use Rattle.cert_text.proofs.spelling.is_constant.Goals as goal
 
 pub returns : goal.returns

@@ -1,5 +1,5 @@
 use Rattle.std.proofs.Common.{arith, length, ◌<◌, ◌≤◌}
-use Rattle.lin_row.specs.Form.{Form}
+use Rattle.lin_proof.specs.Form.{Form}
 use Rattle.lin_search.specs.steps.Pairs.{NoPartner}
 use Rattle.lin_search.proofs.Walks.{each_more, each_of_all}
 use Rattle.lin_search.proofs.at_hand.closing_pair.Goals as goal

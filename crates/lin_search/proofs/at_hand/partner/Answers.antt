@@ -1,5 +1,5 @@
 use Rattle.std.proofs.Common.{◌≡◌, ℤ, false, arith, length, ◌<◌, ◌≤◌}
-use Rattle.lin_row.specs.Form.{Form}
+use Rattle.lin_proof.specs.Form.{Form}
 use Rattle.lin_proof.specs.Pairs.{closes}
 use Rattle.lin_search.proofs.Walks.{each_more, each_of_all}
 use Rattle.lin_search.proofs.at_hand.partner.Goals as goal

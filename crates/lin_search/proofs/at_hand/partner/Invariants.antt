@@ -1,6 +1,6 @@
 use Rattle.std.proofs.Common.{◌≡◌, ◌<◌, ℕ, ℤ, false, Some}
 use Rattle.std.specs.Prelude.{slice_get}
-use Rattle.lin_row.specs.Form.{Form}
+use Rattle.lin_proof.specs.Form.{Form}
 use Rattle.lin_proof.specs.Pairs.{closes}
 use Rattle.lin_search.proofs.at_hand.partner.Given as goal
 

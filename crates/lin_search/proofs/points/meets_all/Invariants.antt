@@ -1,6 +1,6 @@
 use Rattle.std.proofs.Common.{◌≡◌, ◌<◌, ℕ, Some, pos, ◌≤ℤ◌}
 use Rattle.std.specs.Prelude.{slice_get}
-use Rattle.lin_row.specs.Form.{Form, value}
+use Rattle.lin_proof.specs.Form.{Form, value}
 use Rattle.lin_search.specs.Answers.{at_point}
 use Rattle.lin_search.proofs.points.meets_all.Given as goal
 

@@ -1,5 +1,5 @@
 use Rattle.std.proofs.Common.{◌≡◌, ◌+ℤ◌, drop}
-use Rattle.lin_row.specs.Form.{terms_value, value}
+use Rattle.lin_proof.specs.Form.{terms_value, value}
 use Rattle.lin_search.specs.Answers.{at_point}
 use Rattle.lin_search.proofs.points.value_at.Given as goal
 

@@ -1,6 +1,6 @@
 use Rattle.std.proofs.Common.{sym, subst, FitsSigned, to_z-of_z}
 use Rattle.std.specs.Int.{w128, int_div_euclid}
-use Rattle.lin_row.specs.Form.{IsCanonical}
+use Rattle.lin_proof.specs.Form.{IsCanonical}
 use Rattle.sym_calc.proofs.Quotients.{IsCanonical-changed}
 use Rattle.sym_calc.proofs.divisions.quotient.Goals as goal
 

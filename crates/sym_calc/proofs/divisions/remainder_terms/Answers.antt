@@ -1,6 +1,6 @@
 use Rattle.std.proofs.Common.{pos, ◌++◌, [], get_or, sym, ◌∙◌, rules, FitsSigned, to_z-of_z}
 use Rattle.std.specs.Int.{w128, int_rem_euclid}
-use Rattle.lin_row.specs.Form.{put}
+use Rattle.lin_proof.specs.Form.{put}
 use Rattle.sym_calc.proofs.Quotients.{changed-more}
 use Rattle.sym_calc.proofs.divisions.remainder_terms.Goals as goal
 

@@ -3,7 +3,7 @@ use Rattle.std.specs.Int.{w128}
 use Rattle.std.proofs.lemmas.Bool.{and_parts}
 use Rattle.std.proofs.lemmas.Result.{IfOk-weaker}
 use Rattle.viz_base.specs.declared.jobs.Job.{Job}
-use Rattle.lin_row.specs.Form.{denied, form_fits}
+use Rattle.lin_proof.specs.Form.{denied, form_fits}
 use Rattle.cert_text.specs.declared.certificate.CertNode.TheVariants.{Def, Split, Lemma, Leaf}
 use Rattle.cert_text.specs.Nodes.{node_count}
 use Rattle.cert_path.specs.Nodes.{splits}

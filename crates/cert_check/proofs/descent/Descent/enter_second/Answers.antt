@@ -1,5 +1,5 @@
 use Rattle.std.proofs.Common.{◌≡◌, ◌∙◌, ◌∷◌, ◌++◌, [], true, ◌&&◌, rules, sym, ap, subst}
-use Rattle.lin_row.specs.Form.{denied}
+use Rattle.lin_proof.specs.Form.{denied}
 use Rattle.cert_path.specs.Facts.{facts}
 use Rattle.cert_path.specs.Derived.{AreEntailed}
 use Rattle.sym_calc.specs.Laws.{origin_of}

@@ -1,6 +1,6 @@
 use Rattle.std.proofs.Common.{◌≡◌, pos, ap, ◌∙◌, rules}
 use Rattle.std.specs.Int.RustNames.{int_le}
-use Rattle.lin_row.specs.Form.{value}
+use Rattle.lin_proof.specs.Form.{value}
 use Rattle.sym_calc.proofs.Telling.{after_learning}
 use Rattle.sym_calc.proofs.sym.Sym.asked.Goals as goal
 

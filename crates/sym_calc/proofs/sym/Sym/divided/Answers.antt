@@ -1,7 +1,7 @@
 use Rattle.std.proofs.Common.{◌≡◌, ◌≢◌, pos, [], ap, sym, ◌∙◌, refl, subst, true≢false, FitsSigned, to_z-of_z, IsTrue}
 use Rattle.std.specs.Int.{w128}
 use Rattle.std.proofs.lemmas.Result.{IfOk-weaker, err_from_is_err_and}
-use Rattle.lin_row.specs.Form.{Form, value, plus}
+use Rattle.lin_proof.specs.Form.{Form, value, plus}
 use Rattle.cert_path.specs.Facts.{row_of}
 use Rattle.cert_path.specs.Shapes.{has_remainders}
 use Rattle.sym_calc.specs.Calc.{named_of}

@@ -1,6 +1,6 @@
 use Rattle.std.proofs.Common.{◌≡◌, pos, ap, ◌∙◌}
 use Rattle.std.proofs.lemmas.Result.{IfOk-weaker}
-use Rattle.lin_row.specs.Form.{value, plus}
+use Rattle.lin_proof.specs.Form.{value, plus}
 use Rattle.sym_calc.proofs.Numbers.{sum_at}
 use Rattle.sym_calc.proofs.States.{counted_is}
 use Rattle.sym_calc.proofs.sym.SymCalc.add.Goals as goal

@@ -3,8 +3,8 @@ use Rattle.std.specs.Int.{w128}
 use Rattle.std.specs.Int.RustNames.{int_le}
 use Rattle.std.specs.Prelude.{pos, Bool, slice_get}
 use Rattle.std.proofs.lemmas.Result.{IfOk-weaker, err_from_is_err_and}
-use Rattle.lin_row.specs.Form.{Form, plus}
-use Rattle.lin_row.specs.Exact.{IsExact}
+use Rattle.lin_proof.specs.Form.{Form, plus}
+use Rattle.lin_proof.specs.Exact.{IsExact}
 use Rattle.sym_calc.specs.Calc.{contrary_fits}
 use Rattle.sym_calc.proofs.Fitting.{halted_within, within_same, constant_fits, variable_fits}
 use Rattle.sym_calc.proofs.Rests.{some_variable}

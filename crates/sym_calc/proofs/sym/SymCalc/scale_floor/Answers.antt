@@ -3,8 +3,8 @@ use Rattle.std.specs.Prelude.{Err}
 use Rattle.std.specs.Int.{w128, int_div_euclid}
 use Rattle.std.proofs.lemmas.Result.{IfOk-weaker, err_from_is_err_and}
 use Rattle.viz_calc.specs.World.{Reading}
-use Rattle.lin_row.specs.Form.{value, form_fits, plus}
-use Rattle.lin_row.specs.Exact.{IsExact}
+use Rattle.lin_proof.specs.Form.{value, form_fits, plus}
+use Rattle.lin_proof.specs.Exact.{IsExact}
 use Rattle.sym_calc.specs.Calc.{named_of}
 use Rattle.sym_calc.specs.Given.{IsGiven}
 use Rattle.sym_calc.specs.Divided.{divided, division_fits, multiple}

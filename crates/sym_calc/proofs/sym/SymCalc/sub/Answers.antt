@@ -1,6 +1,6 @@
 use Rattle.std.proofs.Common.{◌≡◌, negsuc, ap, ◌∙◌}
 use Rattle.std.proofs.lemmas.Result.{IfOk-weaker}
-use Rattle.lin_row.specs.Form.{value, plus}
+use Rattle.lin_proof.specs.Form.{value, plus}
 use Rattle.sym_calc.proofs.Numbers.{difference_at}
 use Rattle.sym_calc.proofs.States.{counted_is}
 use Rattle.sym_calc.proofs.sym.SymCalc.sub.Goals as goal

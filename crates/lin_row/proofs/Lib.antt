@@ -1,6 +1,0 @@
-pub mod Cuts
-pub mod Merges
-pub mod Opposites
-pub mod Sums
-pub mod Values
-pub mod Whole

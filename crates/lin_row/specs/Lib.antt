@@ -1,5 +1,0 @@
-pub mod Cut
-pub mod Exact
-pub mod Form
-pub mod Number
-pub mod steps
