@@ -13,8 +13,8 @@ use Rattle.cert_check.specs.Truths.{Holds, is_true_at}
 use Rattle.page_json.specs.Jobs.{Raw, raw_job}
 use Rattle.page_build.specs.Jobs.{AreBuilt, IsJobAt}
 use Rattle.page_build.specs.Laws.{OneAnswer}
-use Rattle.page_parts.specs.Parts.{HaveRanges, IsToldAt, PartsTell, TellTheRange, are_true_at}
-use Rattle.page_parts.proofs.PartTruths.{ranges_of}
+use Rattle.viz_replies.specs.Parts.{HaveRanges, IsToldAt, PartsTell, TellTheRange, are_true_at}
+use Rattle.viz_replies.proofs.PartTruths.{ranges_of}
 use Rattle.viz_replies.specs.Jobs.{SpellJobs, SpellsJobAt}
 use Rattle.viz_replies.specs.Laws.{AreTrueAt}
 use Rattle.viz_replies.specs.Truths.{IsTrueEverywhere, IsTrueThere}

@@ -8,3 +8,6 @@ pub mod Replies
 pub mod Trials
 pub mod Headline
 pub mod steps
+pub mod Print
+pub mod Generated
+pub mod Parts

@@ -5,7 +5,7 @@ use Rattle.std.specs.List.{flat_map}
 use Rattle.viz_base.specs.declared.jobs.Job.{Job}
 use Rattle.viz_base.specs.declared.worlds.World.{World}
 use Rattle.viz_base.specs.declared.worlds.Rect.{Rect}
-use Rattle.lay_print.specs.Print.{printed}
+use Rattle.viz_replies.specs.Print.{printed}
 use Rattle.logic_semantics.specs.Scenes.{scene_of}
 use Rattle.logic_semantics.specs.Blame.{blame}
 use Rattle.cert_text.specs.declared.certificate.Cert.{Cert}

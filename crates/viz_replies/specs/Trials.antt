@@ -5,7 +5,7 @@ use Rattle.viz_base.specs.declared.worlds.World.{World}
 use Rattle.viz_base.specs.declared.worlds.Rect.{Rect}
 use Rattle.viz_base.specs.Worlds.{world_count}
 use Rattle.prove_search.specs.Outcomes.{IsUndecided}
-use Rattle.page_gen.specs.Jobs.{job_text}
+use Rattle.viz_replies.specs.Generated.{job_text}
 use Rattle.viz_replies.specs.declared.reply.Answer.{Answer}
 use Rattle.viz_replies.specs.declared.reply.Answer.TheVariants as ends
 use Rattle.viz_replies.specs.Lines.{numbered, spaced}

@@ -5,7 +5,7 @@ ghost use Rattle.viz_replies.specs.steps.Answers.{AreJobsRead, IsJobRead};
 use crate::refusals::refusal;
 use crate::reply::{Answer, Reply, line};
 use page_build::{build_at, build_parts};
-use page_parts::parts_tell;
+use crate::part_laws::parts_tell;
 use std::alloc::Global;
 use viz_base::{Job, List, Mem};
 

@@ -1,9 +1,9 @@
 ghost use Rattle.std.specs.Prelude.{◌≡◌, ◌≤◌, ◌<◌, MatchOption, IfSome};
 ghost use Rattle.std.proofs.Props.{props};
 ghost use Rattle.viz_base.specs.declared.limits.TheConstants.{MOST_PIXELS, MOST_SIZE};
-ghost use Rattle.page_gen.specs.Jobs.{sections_most};
+ghost use Rattle.viz_replies.specs.Generated.{sections_most};
 
-use page_gen::SECTIONS_MOST;
+use crate::generator::SECTIONS_MOST;
 use viz_base::{Rect, Text8, World};
 
 /// A viewport and a default font size at which pages can be laid out, in pixels.

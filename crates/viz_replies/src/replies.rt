@@ -14,7 +14,7 @@ use crate::reply::{Answer, Reply};
 use crate::searches::{Found, search};
 use crate::violations::violation;
 use lay_flow::render_at;
-use lay_print::print;
+use crate::printing::print;
 use page_build::one_answer;
 use std::alloc::{AllocError, Global};
 use viz_base::{Job, List, Mem, Rect, World};

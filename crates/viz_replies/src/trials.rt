@@ -1,6 +1,6 @@
 //! Replies about generated jobs, which no file holds.
 ghost use Rattle.std.specs.Prelude.{◌≡◌, ◌∷◌, ◌<◌, ◌≤◌, List, length, IfOk};
-ghost use Rattle.page_gen.specs.Jobs.{job_text};
+ghost use Rattle.viz_replies.specs.Generated.{job_text};
 ghost use Rattle.viz_replies.specs.Lines.{numbered};
 ghost use Rattle.viz_replies.specs.Trials.{IsGenerated, IsTrial, IsTrialOf, IsTrialOn, trial_line};
 ghost use Rattle.viz_replies.specs.Headline.{IsFalseWhereNamed};
@@ -13,7 +13,8 @@ use crate::lines::{push_line, push_number};
 use crate::question::Sections;
 use crate::reply::{Answer, Reply};
 use crate::searches::{Found, search};
-use page_gen::{GenFault, generate};
+use crate::faults::GenFault;
+use crate::generator::generate;
 use std::alloc::Global;
 use viz_base::{Job, Mem, world_count};
 

@@ -1,6 +1,6 @@
 //! What is replied where a job's assertion is false at a world.
 ghost use Rattle.std.specs.Prelude.{◌≡◌, ◌++◌, ◌≤◌, IfOk, OnOk};
-ghost use Rattle.lay_print.specs.Print.{printed};
+ghost use Rattle.viz_replies.specs.Print.{printed};
 ghost use Rattle.vis_truth.specs.Scenes.{IsBoundedRendering};
 ghost use Rattle.viz_replies.specs.Replies.{violation_text};
 ghost use Rattle.viz_replies.specs.steps.Violations.{blame_lines_of, violation_lines_of};
@@ -9,7 +9,7 @@ ghost use Rattle.viz_base.specs.declared.limits.TheConstants.{MOST_PIXELS, MOST_
 use crate::lines::{push_blamed, push_world};
 use crate::reply::{Answer, Reply};
 use lay_flow::render_at;
-use lay_print::print;
+use crate::printing::print;
 use std::alloc::Global;
 use vis_truth::blame;
 use viz_base::{Job, Mem, Rendering, World};

@@ -9,7 +9,7 @@ use Rattle.viz_replies.specs.Truths.{IsTrueEverywhere}
 use Rattle.viz_replies.specs.Replies.{IsRefusal}
 use Rattle.viz_outside.specs.Sink.{grown}
 use Rattle.viz_replies.proofs.HeadlineLemmas.{accepted_everywhere, proves_true, violates, trial_proves, trial_violates}
-use Rattle.page_gen.specs.Jobs.{job_text}
+use Rattle.viz_replies.specs.Generated.{job_text}
 use Rattle.viz_run.specs.declared.status.Status.{Status}
 use Rattle.viz_run.specs.declared.status.Status.TheVariants as ends
 use Rattle.viz_run.specs.declared.words.Command.{Command}

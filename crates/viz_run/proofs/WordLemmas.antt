@@ -1,6 +1,6 @@
 -- A number that was printed is read back.
 use Rattle.std.proofs.Common.{◌≡◌, ◌≢◌, ℕ, ◌<◌, ◌^◌, List, [], ◌∷◌, length, ◌≤◌, ◌&&◌, nat_le, cond, Option, Some, None, MatchOption, refl, Bool, true, false, get_or, map, arith, Result, Ok, decimal, ap, sym, ◌∙◌}
-use Rattle.page_gen.specs.Jobs.{sections_most}
+use Rattle.viz_replies.specs.Generated.{sections_most}
 use Rattle.viz_replies.specs.declared.question.Sections.{Sections}
 use Rattle.std.specs.Str.Parse.{AllDigits, digits_value, ParsesUnsigned}
 use Rattle.std.proofs.lemmas.Str.Parse.{IsNumeralModel, numerals_by_value, tells_digits, parse_gives}

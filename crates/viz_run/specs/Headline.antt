@@ -1,7 +1,7 @@
 -- What a run tells of the assertion of a job.
 use Rattle.std.specs.Prelude.{◌≡◌, ℕ, List, Option, decimal}
 use Rattle.viz_outside.specs.Sink.{grown}
-use Rattle.page_gen.specs.Jobs.{job_text}
+use Rattle.viz_replies.specs.Generated.{job_text}
 use Rattle.viz_replies.specs.Headline.{IsFalseWherePrinted, IsFalseWhereNamed}
 use Rattle.viz_replies.specs.Truths.{IsTrueEverywhere}
 use Rattle.viz_replies.specs.Jobs.{job_most}

@@ -1,6 +1,6 @@
 -- The forms of the program's words.
 use Rattle.std.specs.Prelude.{◌≡◌, ◌≢◌, ◌⊎◌, ℕ, ◌≤◌, ◌<◌, ◌^◌, List, [], ◌∷◌, codes, Option, Some, None, IfSome, decimal, slice_get, unwrap_or}
-use Rattle.page_gen.specs.Jobs.{sections_most}
+use Rattle.viz_replies.specs.Generated.{sections_most}
 use Rattle.viz_replies.specs.declared.question.Screen.{Screen}
 use Rattle.viz_run.specs.declared.words.Command.{Command}
 use Rattle.viz_run.specs.declared.words.Command.TheVariants as asks_for

@@ -5,7 +5,7 @@ use Rattle.std.specs.Prelude.{slice_get}
 use Rattle.viz_base.specs.declared.jobs.Job.{Job}
 use Rattle.viz_base.specs.declared.worlds.Rect.{Rect}
 use Rattle.viz_base.specs.declared.worlds.World.{World}
-use Rattle.page_parts.specs.Parts.{are_true_at}
+use Rattle.viz_replies.specs.Parts.{are_true_at}
 use Rattle.viz_tables.specs.declared.words.Word.{Word}
 use Rattle.viz_tables.specs.declared.words.Line.{Line}
 use Rattle.viz_tables.specs.Joins.{EndsOther, IsSaid}

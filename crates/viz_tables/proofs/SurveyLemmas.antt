@@ -8,8 +8,8 @@ use Rattle.viz_base.specs.declared.jobs.Job.{Job}
 use Rattle.viz_base.specs.declared.worlds.Rect.{Rect}
 use Rattle.viz_base.specs.declared.worlds.World.{World}
 use Rattle.page_build.specs.Jobs.{AreJobsWith}
-use Rattle.page_parts.specs.Parts.{HaveRangesWith, IsToldAt, PartsTell, TellTheRange, are_true_at}
-use Rattle.page_parts.proofs.PartTruths.{ranges_of}
+use Rattle.viz_replies.specs.Parts.{HaveRangesWith, IsToldAt, PartsTell, TellTheRange, are_true_at}
+use Rattle.viz_replies.proofs.PartTruths.{ranges_of}
 use Rattle.viz_tables.specs.declared.words.Word.{Word}
 use Rattle.viz_tables.specs.declared.words.Word.TheVariants.{Holds, Fails, Undecided}
 use Rattle.viz_tables.specs.declared.words.Line.{Line}

@@ -7,7 +7,7 @@ use Rattle.viz_base.specs.declared.jobs.Job.{Job}
 use Rattle.viz_base.specs.declared.worlds.Rect.{Rect}
 use Rattle.viz_base.specs.declared.worlds.World.{World}
 use Rattle.cert_check.specs.Truths.{is_true_at}
-use Rattle.page_parts.specs.Parts.{are_true_at}
+use Rattle.viz_replies.specs.Parts.{are_true_at}
 use Rattle.viz_tables.specs.declared.words.Word.{Word}
 use Rattle.viz_tables.specs.declared.words.Word.TheVariants.{Holds, Fails, Undecided}
 use Rattle.viz_tables.specs.Joins.{both_words}

@@ -8,7 +8,7 @@ use Rattle.viz_base.specs.declared.worlds.World.{World}
 use Rattle.viz_base.specs.Worlds.{world_count, IsInRange}
 use Rattle.viz_base.specs.Halves.{middle}
 use Rattle.cert_check.specs.Truths.{is_true_at}
-use Rattle.page_parts.specs.Parts.{are_true_at}
+use Rattle.viz_replies.specs.Parts.{are_true_at}
 use Rattle.prove_search.specs.declared.outcome.Outcome.{Outcome}
 use Rattle.prove_search.specs.declared.outcome.Outcome.TheVariants as outcomes
 use Rattle.viz_tables.specs.declared.searching.Found.{Found}

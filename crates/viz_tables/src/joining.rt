@@ -3,7 +3,7 @@ ghost use Rattle.std.specs.Prelude.{◌≡◌, ◌+◌, [], ◌∷◌, length, r
 ghost use Rattle.std.specs.List.{AllByRecursion};
 ghost use Rattle.viz_base.specs.Jobs.{IsRange};
 ghost use Rattle.viz_base.specs.declared.jobs.Job.{Job};
-ghost use Rattle.page_parts.specs.Parts.{are_true_at};
+ghost use Rattle.viz_replies.specs.Parts.{are_true_at};
 ghost use Rattle.viz_tables.specs.Words.{AreLinesOf, AreRight, both, undecided_line};
 ghost use Rattle.viz_tables.specs.Joins.{both_words};
 

@@ -10,7 +10,7 @@ ghost use Rattle.viz_tables.specs.Searches.{AreSurveyed, HaveRange};
 use crate::joining::lines_of;
 use crate::words::Line;
 use page_build::{JobRefusal, build_with};
-use page_parts::parts_tell;
+use viz_replies::parts_tell;
 use std::alloc::Global;
 use viz_base::{Job, List, Mem, Rect};
 

@@ -1,5 +1,5 @@
 use Rattle.std.proofs.lemmas.Result.{IfOk-weaker}
-use Rattle.page_gen.specs.Jobs.{job_text}
+use Rattle.viz_replies.specs.Generated.{job_text}
 use Rattle.viz_replies.proofs.HeadlineLemmas.{trial_proves, trial_violates}
 use Rattle.viz_replies.proofs.trials.reply_to_trial.Goals as goal
 

@@ -1,7 +1,0 @@
-use Rattle.std.proofs.Common.{◌≡◌, take}
-use Rattle.std.specs.List.{flat_map}
-use Rattle.lay_print.specs.Print.{print_box}
-use Rattle.lay_print.proofs.print.Given as goal
-
-abbrev pub invariant-loop-placed : goal.invariant-loop-placed
-invariant-loop-placed l = l.out.items ≡ flat_map print_box (take l.placed-index l.placed-items)

@@ -1,2 +1,0 @@
-pub mod RawRanges
-pub mod PartTruths
