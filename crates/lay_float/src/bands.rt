@@ -1,4 +1,5 @@
 ghost use Rattle.std.specs.Prelude.{◌≡◌, ⊤, None, IsTrue, is_some, ◌||◌};
+ghost use Rattle.viz_calc.specs.State.{WhereOpen};
 ghost use Rattle.std.specs.List.{list_any};
 ghost use Rattle.viz_calc.specs.World.{Reading};
 ghost use Rattle.viz_calc.specs.Run.{Goes, Blames, Lays};
@@ -68,8 +69,8 @@ fn room_beside<'a, S: Steady>(
     f: &'a PlacedFloat<S::Num>,
 ) -> Room<'a, S::Num>
     ensures { Lays S.run calc.old calc.new (room_at S.at result)
-        (λ e. room_beside (S.at y.now e) (S.at end.now e) (room_at S.at room.entry e) (box_at S.at f.now e))
-        (λ e. ⊤) }
+        (λ e. room_beside (S.at y.now e) (S.at end.now e) (room_at S.at room.entry e)
+        (box_at S.at f.now e)) (λ e. ⊤) }
 {
     if meets_between(calc, y, end, f) {
         narrowed(calc, f.side, facing(f), room)
@@ -87,8 +88,8 @@ pub fn room_between<'a, S: Steady>(
     end: &S::Num,
 ) -> Room<'a, S::Num>
     ensures { Lays S.run calc.old calc.new (room_at S.at result)
-        (λ e. room_from (S.at y.now e) (S.at end.now e) (boxes_at S.at floats.now e) (band_at S.at cb.now e))
-        (λ e. ⊤) }
+        (λ e. room_from (S.at y.now e) (S.at end.now e) (boxes_at S.at floats.now e)
+        (band_at S.at cb.now e)) (λ e. ⊤) }
 {
     let mut room = Room {
         left: &cb.left,
@@ -108,7 +109,8 @@ pub fn any_between<S: Steady>(
     end: &S::Num,
 ) -> bool
     ensures { Lays S.run calc.old calc.new (λ e. result)
-        (λ e. list_any (meets_between (S.at y.now e) (S.at end.now e)) (boxes_at S.at floats.now e)) (λ e. ⊤) }
+        (λ e. list_any (meets_between (S.at y.now e) (S.at end.now e)) (boxes_at S.at floats.now e))
+        (λ e. ⊤) }
 {
     for f in floats {
         if meets_between(calc, y, end, f) {
@@ -139,8 +141,9 @@ fn lower<'a, S: Steady>(
     f: &'a PlacedFloat<S::Num>,
 ) -> Option<&'a S::Num>
     ensures goes { Goes (S.run calc.old) (S.run calc.new) }
-    ensures value { (e : Reading) → IsTrue ((S.run calc.new).is_open e) → lent_at S.at result e
-        ≡ lower clear (lent_at S.at best.entry e) (box_at S.at f.now e) }
+    ensures value { WhereOpen (S.run calc.new).is_open
+        (λ e. lent_at S.at result e ≡ lower clear (lent_at S.at best.entry e)
+        (box_at S.at f.now e)) }
     ensures some { is_some result ≡ (is_some best.entry || is_relevant_side clear f.now.side) }
     ensures cause { Blames (S.run calc.old) (S.run calc.new) ⊤ }
 {
@@ -158,8 +161,8 @@ pub fn lowest_bottom<'a, S: Steady>(
     clear: Clear,
 ) -> Option<&'a S::Num>
     ensures goes { Goes (S.run calc.old) (S.run calc.new) }
-    ensures value { (e : Reading) → IsTrue ((S.run calc.new).is_open e) → lent_at S.at result e
-        ≡ lowest_from clear (boxes_at S.at floats.now e) None }
+    ensures value { WhereOpen (S.run calc.new).is_open
+        (λ e. lent_at S.at result e ≡ lowest_from clear (boxes_at S.at floats.now e) None) }
     ensures some { is_some result ≡ list_any (λ f. is_relevant_side clear f.side) floats.now }
     ensures cause { Blames (S.run calc.old) (S.run calc.new) ⊤ }
 {

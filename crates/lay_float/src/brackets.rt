@@ -1,6 +1,7 @@
 //! The highest place of a float among many: a top at which there is no place and a lower one at which there is are
 //! brought together. From bottom to bottom a place is looked for only among few, where that asks the least.
 ghost use Rattle.std.specs.Prelude.{◌≡◌, ◌≤◌, ⊤, IsTrue, length};
+ghost use Rattle.viz_calc.specs.State.{WhereOpen};
 ghost use Rattle.viz_calc.specs.World.{Reading};
 ghost use Rattle.viz_calc.specs.Run.{Goes, Blames, Lays};
 ghost use Rattle.viz_calc.specs.Renderings.{band_at};
@@ -55,9 +56,11 @@ fn tried<'a, S: Steady>(
     bottom: &'a S::Num,
 ) -> Bracket<'a, S::Num>
     ensures goes { Goes (S.run calc.old) (S.run calc.new) }
-    ensures value { (e : Reading) → IsTrue ((S.run calc.new).is_open e) → bracket_at S.at result e
-        ≡ tried (boxes_at S.at wanted.now.floats.now e) wanted.now.side (S.at wanted.now.width.now e)
-        (band_at S.at wanted.now.cb.now e) (bracket_at S.at bracket.entry e) (S.at bottom.now e) }
+    ensures value { WhereOpen (S.run calc.new).is_open
+        (λ e. bracket_at S.at result e
+        ≡ tried (boxes_at S.at wanted.now.floats.now e) wanted.now.side
+        (S.at wanted.now.width.now e) (band_at S.at wanted.now.cb.now e)
+        (bracket_at S.at bracket.entry e) (S.at bottom.now e)) }
     ensures cause { Blames (S.run calc.old) (S.run calc.new) (FitsAnywhere (S.run calc.old) S.at wanted.now.floats.now
         wanted.now.side wanted.now.cb.now wanted.now.width.now) }
 {
@@ -90,9 +93,11 @@ fn visited<'a, S: Steady>(
     f: &'a PlacedFloat<S::Num>,
 ) -> Bracket<'a, S::Num>
     ensures goes { Goes (S.run calc.old) (S.run calc.new) }
-    ensures value { (e : Reading) → IsTrue ((S.run calc.new).is_open e) → bracket_at S.at result e
-        ≡ visited (boxes_at S.at wanted.now.floats.now e) wanted.now.side (S.at wanted.now.width.now e)
-        (band_at S.at wanted.now.cb.now e) (bracket_at S.at bracket.entry e) (box_at S.at f.now e) }
+    ensures value { WhereOpen (S.run calc.new).is_open
+        (λ e. bracket_at S.at result e
+        ≡ visited (boxes_at S.at wanted.now.floats.now e) wanted.now.side
+        (S.at wanted.now.width.now e) (band_at S.at wanted.now.cb.now e)
+        (bracket_at S.at bracket.entry e) (box_at S.at f.now e)) }
     ensures cause { Blames (S.run calc.old) (S.run calc.new) (FitsAnywhere (S.run calc.old) S.at wanted.now.floats.now
         wanted.now.side wanted.now.cb.now wanted.now.width.now) }
 {
@@ -111,8 +116,9 @@ fn visited_at<'a, S: Steady>(
     index: usize,
 ) -> Bracket<'a, S::Num>
     ensures goes { Goes (S.run calc.old) (S.run calc.new) }
-    ensures value { (e : Reading) → IsTrue ((S.run calc.new).is_open e) → KeepsBrackets S.at wanted.now e
-        (bracket_at S.at bracket.entry e) (bracket_at S.at result e) }
+    ensures value { WhereOpen (S.run calc.new).is_open
+        (λ e. KeepsBrackets S.at wanted.now e (bracket_at S.at bracket.entry e)
+        (bracket_at S.at result e)) }
     ensures cause { Blames (S.run calc.old) (S.run calc.new) (FitsAnywhere (S.run calc.old) S.at wanted.now.floats.now
         wanted.now.side wanted.now.cb.now wanted.now.width.now) }
 {
@@ -142,8 +148,9 @@ fn sampled<'a, S: Steady>(
     bracket: Bracket<'a, S::Num>,
 ) -> Bracket<'a, S::Num>
     ensures goes { Goes (S.run calc.old) (S.run calc.new) }
-    ensures value { (e : Reading) → IsTrue ((S.run calc.new).is_open e) → KeepsBrackets S.at wanted.now e
-        (bracket_at S.at bracket.entry e) (bracket_at S.at result e) }
+    ensures value { WhereOpen (S.run calc.new).is_open
+        (λ e. KeepsBrackets S.at wanted.now e (bracket_at S.at bracket.entry e)
+        (bracket_at S.at result e)) }
     ensures cause { Blames (S.run calc.old) (S.run calc.new) (FitsAnywhere (S.run calc.old) S.at wanted.now.floats.now
         wanted.now.side wanted.now.cb.now wanted.now.width.now) }
 {
@@ -164,9 +171,11 @@ fn closed<'a, S: Steady>(
     bracket: Bracket<'a, S::Num>,
 ) -> Bracket<'a, S::Num>
     ensures goes { Goes (S.run calc.old) (S.run calc.new) }
-    ensures value { (e : Reading) → IsTrue ((S.run calc.new).is_open e) → bracket_at S.at result e
-        ≡ visited_all (boxes_at S.at wanted.now.floats.now e) wanted.now.side (S.at wanted.now.width.now e)
-        (band_at S.at wanted.now.cb.now e) (boxes_at S.at wanted.now.floats.now e) (bracket_at S.at bracket.entry e) }
+    ensures value { WhereOpen (S.run calc.new).is_open
+        (λ e. bracket_at S.at result e
+        ≡ visited_all (boxes_at S.at wanted.now.floats.now e) wanted.now.side
+        (S.at wanted.now.width.now e) (band_at S.at wanted.now.cb.now e)
+        (boxes_at S.at wanted.now.floats.now e) (bracket_at S.at bracket.entry e)) }
     ensures cause { Blames (S.run calc.old) (S.run calc.new) (FitsAnywhere (S.run calc.old) S.at wanted.now.floats.now
         wanted.now.side wanted.now.cb.now wanted.now.width.now) }
 {
@@ -184,11 +193,12 @@ fn place_among_many<'a, S: Steady>(
     high: &'a S::Num,
 ) -> Place<'a, S::Num>
     ensures goes { Goes (S.run calc.old) (S.run calc.new) }
-    ensures value { (e : Reading) → IsTrue ((S.run calc.new).is_open e)
-        → place_at S.at result e ≡ place_on (boxes_at S.at wanted.now.floats.now e) wanted.now.side
-        (band_at S.at wanted.now.cb.now e) (free_top (length wanted.now.floats.now)
+    ensures value { WhereOpen (S.run calc.new).is_open
+        (λ e. place_at S.at result e ≡ place_on
+        (boxes_at S.at wanted.now.floats.now e) wanted.now.side (band_at S.at wanted.now.cb.now e)
+        (free_top (length wanted.now.floats.now)
         (boxes_at S.at wanted.now.floats.now e) wanted.now.side (S.at wanted.now.width.now e)
-        (band_at S.at wanted.now.cb.now e) (S.at high.now e)) }
+        (band_at S.at wanted.now.cb.now e) (S.at high.now e))) }
     ensures cause { Blames (S.run calc.old) (S.run calc.new) (FitsAnywhere (S.run calc.old) S.at wanted.now.floats.now
         wanted.now.side wanted.now.cb.now wanted.now.width.now) }
 {
@@ -226,10 +236,10 @@ pub fn free_place<'a, S: Steady>(
     high: &'a S::Num,
 ) -> Place<'a, S::Num>
     ensures goes { Goes (S.run calc.old) (S.run calc.new) }
-    ensures value { (e : Reading) → IsTrue ((S.run calc.new).is_open e)
-        → place_at S.at result e ≡ place_on (boxes_at S.at floats.now e) side (band_at S.at cb.now e)
-        (free_top (length floats.now) (boxes_at S.at floats.now e) side (S.at width.now e) (band_at S.at cb.now e)
-        (S.at high.now e)) }
+    ensures value { WhereOpen (S.run calc.new).is_open
+        (λ e. place_at S.at result e ≡ place_on (boxes_at S.at floats.now e) side
+        (band_at S.at cb.now e) (free_top (length floats.now) (boxes_at S.at floats.now e) side
+        (S.at width.now e) (band_at S.at cb.now e) (S.at high.now e))) }
     ensures cause { Blames (S.run calc.old) (S.run calc.new)
         (FitsAnywhere (S.run calc.old) S.at floats.now side cb.now width.now) }
 {

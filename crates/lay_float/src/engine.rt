@@ -3,7 +3,7 @@ ghost use Rattle.std.specs.Prelude.{◌≡◌, ◌-◌, ◌≤◌, ℕ, ◌+ℤ�
 ghost use Rattle.std.specs.List.{list_any};
 ghost use Rattle.std.specs.Option.{option_to_list};
 ghost use Rattle.viz_calc.specs.World.{Reading};
-ghost use Rattle.viz_calc.specs.State.{AllSmall};
+ghost use Rattle.viz_calc.specs.State.{AllSmall, WhereOpen};
 ghost use Rattle.viz_calc.specs.Run.{Goes, Blames, BlamesButMem, Lays, LaysButMem};
 ghost use Rattle.viz_calc.specs.Renderings.{spot_at, band_at as stretch_at};
 ghost use Rattle.layout_semantics.specs.Extremes.{greatest_from};
@@ -61,8 +61,9 @@ pub struct Ahead<'a, N> {
 
 /// The last of these floats, and those behind the first ones that have ended, where that is known.
 fn known<N>(floats: &Floats<N>) -> Option<(&PlacedFloat<N>, &[PlacedFloat<N>])>
-    ensures { IfSome result (λ k. (slice_get floats.now.placed (length floats.now.placed - 1) ≡ Some k.0.now)
-        × (ended : ℕ) × (floats.now.ended ≡ Some ended) × (k.1.now ≡ drop ended floats.now.placed)) }
+    ensures { IfSome result (λ k. (slice_get floats.now.placed (length floats.now.placed - 1)
+        ≡ Some k.0.now) × (ended : ℕ) × (floats.now.ended ≡ Some ended)
+        × (k.1.now ≡ drop ended floats.now.placed)) }
 {
     let all = floats.placed.as_slice();
     match (all.last(), floats.ended) {
@@ -106,8 +107,8 @@ fn spot_on<S: Steady>(
 ) -> Spot<S::Num>
     ensures { Lays S.run calc.old calc.new (spot_at S.at result)
         (λ e. spot_on side (S.at width.now e) (place_at S.at place.now e))
-        (λ e. AllSmall
-        ((spot_on side (S.at width.now e) (place_at S.at place.now e)).x ∷ S.at place.now.top.now e ∷ [])) }
+        (λ e. AllSmall ((spot_on side (S.at width.now e) (place_at S.at place.now e)).x
+        ∷ S.at place.now.top.now e ∷ [])) }
 {
     let x = match side {
         Side::Left => calc.copy(place.edge),
@@ -128,8 +129,8 @@ pub fn float_at<S: Steady>(
     top: &S::Num,
 ) -> Spot<S::Num>
     ensures { Lays S.run calc.old calc.new (spot_at S.at result)
-        (λ e. float_at (boxes_at S.at floats.now e) side (extent_at S.at size.now e) (stretch_at S.at cb.now e)
-        (S.at top.now e))
+        (λ e. float_at (boxes_at S.at floats.now e) side (extent_at S.at size.now e)
+        (stretch_at S.at cb.now e) (S.at top.now e))
         (λ e. AreHalf (boxes_at S.at floats.now e)
         (S.at size.now.width e ∷ S.at cb.now.left e ∷ S.at cb.now.right e ∷ S.at top.now e ∷ [])) }
 {
@@ -160,15 +161,16 @@ fn spot_behind<S: Steady>(
 ) -> Found<S::Num>
     requires { Agree S.at (S.run calc.old).is_open floats.now }
     ensures goes { Goes (S.run calc.old) (S.run calc.new) }
-    ensures value { (e : Reading) → IsTrue ((S.run calc.new).is_open e) → spot_at S.at result.spot e
-        ≡ float_at (floats_at S.at floats.now e) side (extent_at S.at size.now e) (stretch_at S.at cb.now e)
-        (S.at top.now e) }
-    ensures level { (e : Reading) → IsTrue ((S.run calc.new).is_open e)
-        → IsLevel (floats_at S.at floats.now e) result.ended (S.at result.spot.y e) }
+    ensures value { WhereOpen (S.run calc.new).is_open
+        (λ e. spot_at S.at result.spot e
+        ≡ float_at (floats_at S.at floats.now e) side (extent_at S.at size.now e)
+        (stretch_at S.at cb.now e) (S.at top.now e)) }
+    ensures level { WhereOpen (S.run calc.new).is_open
+        (λ e. IsLevel (floats_at S.at floats.now e) result.ended (S.at result.spot.y e)) }
     ensures within { result.ended ≤ length floats.now.placed }
-    ensures cause { Blames (S.run calc.old) (S.run calc.new) ((e : Reading) → IsTrue ((S.run calc.old).is_open e)
-        → AreHalf (floats_at S.at floats.now e) (S.at size.now.width e ∷ S.at cb.now.left e ∷ S.at cb.now.right e
-        ∷ S.at top.now e ∷ [])) }
+    ensures cause { Blames (S.run calc.old) (S.run calc.new) (WhereOpen (S.run calc.old).is_open
+        (λ e. AreHalf (floats_at S.at floats.now e)
+        (S.at size.now.width e ∷ S.at cb.now.left e ∷ S.at cb.now.right e ∷ S.at top.now e ∷ []))) }
 {
     let Ahead { high, rest } = ahead_of(calc, floats, top);
     let place = free_place(calc, rest, side, &size.width, cb, high);
@@ -216,9 +218,9 @@ fn append<S: Steady>(
     ended: Option<usize>,
 )
     ensures goes { Goes (S.run calc.old) (S.run calc.new) }
-    ensures value { (e : Reading) → IsTrue ((S.run calc.new).is_open e) → floats.new.placed
-        ≡ floats.old.placed ++ placed ∷ [] }
-    ensures ended { (e : Reading) → IsTrue ((S.run calc.new).is_open e) → floats.new.ended ≡ ended }
+    ensures value { WhereOpen (S.run calc.new).is_open
+        (λ e. floats.new.placed ≡ floats.old.placed ++ placed ∷ []) }
+    ensures ended { WhereOpen (S.run calc.new).is_open (λ e. floats.new.ended ≡ ended) }
     ensures halted { IsTrue (is_some (S.run calc.new).halt) → floats.new ≡ floats.old }
     ensures cause { BlamesButMem (S.run calc.old) (S.run calc.new) ⊤ }
 {
@@ -246,19 +248,22 @@ pub fn place<S: Steady>(
 ) -> Spot<S::Num>
     requires { Agree S.at (S.run calc.old).is_open floats.old }
     ensures goes { Goes (S.run calc.old) (S.run calc.new) }
-    ensures value { (e : Reading) → IsTrue ((S.run calc.new).is_open e)
-        → spot_at S.at result e ≡ float_at (floats_at S.at floats.old e) side (extent_at S.at size.now e)
-        (stretch_at S.at cb.now e) (S.at top.now e) }
-    ensures highest { (e : Reading) → IsTrue ((S.run calc.new).is_open e)
-        → IsHighest (floats_at S.at floats.old e) side (S.at size.now.width e) (stretch_at S.at cb.now e)
-        (S.at top.now e) (spot_at S.at result e) }
-    ensures appended { (e : Reading) → IsTrue ((S.run calc.new).is_open e)
-        → floats_at S.at floats.new e ≡ floats_at S.at floats.old e ++ placed_float side
-        (extent_at S.at size.now e) (spot_at S.at result e) ∷ [] }
+    ensures value { WhereOpen (S.run calc.new).is_open
+        (λ e. spot_at S.at result e ≡ float_at (floats_at S.at floats.old e) side
+        (extent_at S.at size.now e) (stretch_at S.at cb.now e) (S.at top.now e)) }
+    ensures highest { WhereOpen (S.run calc.new).is_open
+        (λ e. IsHighest (floats_at S.at floats.old e) side (S.at size.now.width e)
+        (stretch_at S.at cb.now e) (S.at top.now e) (spot_at S.at result e)) }
+    ensures appended { WhereOpen (S.run calc.new).is_open
+        (λ e. floats_at S.at floats.new e
+        ≡ floats_at S.at floats.old e ++ placed_float side (extent_at S.at size.now e)
+        (spot_at S.at result e) ∷ []) }
     ensures halted { IsTrue (is_some (S.run calc.new).halt) → floats.new ≡ floats.old }
-    ensures cause { BlamesButMem (S.run calc.old) (S.run calc.new) ((e : Reading) → IsTrue ((S.run calc.old).is_open e)
-        → AreHalf (floats_at S.at floats.old e) (S.at size.now.width e ∷ S.at size.now.height e ∷ S.at cb.now.left e
-        ∷ S.at cb.now.right e ∷ S.at top.now e ∷ [])) }
+    ensures cause { BlamesButMem (S.run calc.old) (S.run calc.new)
+        (WhereOpen (S.run calc.old).is_open
+        (λ e. AreHalf (floats_at S.at floats.old e)
+        (S.at size.now.width e ∷ S.at size.now.height e ∷ S.at cb.now.left e ∷ S.at cb.now.right e
+        ∷ S.at top.now e ∷ []))) }
     ensures agrees { Agree S.at (S.run calc.new).is_open floats.new }
 {
     let Found { spot, ended } = spot_behind(calc, floats, side, size, cb, top);
@@ -277,8 +282,8 @@ pub fn band<S: Steady>(
     h: &S::Num,
 ) -> Band<S::Num>
     ensures { Lays S.run calc.old calc.new (stretch_at S.at result)
-        (λ e. band_at (boxes_at S.at floats.now e) (stretch_at S.at cb.now e) (S.at y.now e) (S.at h.now e))
-        (λ e. AreHalf (boxes_at S.at floats.now e)
+        (λ e. band_at (boxes_at S.at floats.now e) (stretch_at S.at cb.now e) (S.at y.now e)
+        (S.at h.now e)) (λ e. AreHalf (boxes_at S.at floats.now e)
         (S.at cb.now.left e ∷ S.at cb.now.right e ∷ S.at y.now e ∷ S.at h.now e ∷ [])) }
 {
     let end = calc.add(y, h);
@@ -312,11 +317,12 @@ pub fn bottom<S: Steady>(
     clear: Clear,
 ) -> Option<S::Num>
     ensures goes { Goes (S.run calc.old) (S.run calc.new) }
-    ensures value { (e : Reading) → IsTrue ((S.run calc.new).is_open e) → option_at S.at result e
-        ≡ lowest_bottom clear (boxes_at S.at floats.now e) }
-    ensures some { (e : Reading) → is_some result ≡ list_any (is_relevant clear) (boxes_at S.at floats.now e) }
-    ensures cause { Blames (S.run calc.old) (S.run calc.new) ((e : Reading) → IsTrue ((S.run calc.old).is_open e)
-        → AreHalf (boxes_at S.at floats.now e) []) }
+    ensures value { WhereOpen (S.run calc.new).is_open
+        (λ e. option_at S.at result e ≡ lowest_bottom clear (boxes_at S.at floats.now e)) }
+    ensures some { (e : Reading) → is_some result
+        ≡ list_any (is_relevant clear) (boxes_at S.at floats.now e) }
+    ensures cause { Blames (S.run calc.old) (S.run calc.new) (WhereOpen (S.run calc.old).is_open
+        (λ e. AreHalf (boxes_at S.at floats.now e) [])) }
 {
     match crate::bands::lowest_bottom(calc, floats, clear) {
         Some(bottom) => Some(calc.copy(bottom)),
@@ -332,8 +338,8 @@ fn lowest_or<'a, S: Steady>(
     y: &'a S::Num,
 ) -> &'a S::Num
     ensures { Lays S.run calc.old calc.new (S.at result.now)
-        (λ e. greatest_from (S.at y.now e) (option_to_list (lowest_bottom clear (boxes_at S.at floats.now e))))
-        (λ e. ⊤) }
+        (λ e. greatest_from (S.at y.now e)
+        (option_to_list (lowest_bottom clear (boxes_at S.at floats.now e)))) (λ e. ⊤) }
 {
     match crate::bands::lowest_bottom(calc, floats, clear) {
         Some(below) => larger(calc, below, y),
@@ -351,8 +357,9 @@ pub fn float_top<S: Steady>(
     y: &S::Num,
 ) -> S::Num
     ensures { Lays S.run calc.old calc.new (S.at result)
-        (λ e. float_top clear (boxes_at S.at floats.now e) (lent_at S.at least.entry e) (S.at y.now e))
-        (λ e. AreHalf (boxes_at S.at floats.now e) (S.at y.now e ∷ option_to_list (lent_at S.at least.entry e))) }
+        (λ e. float_top clear (boxes_at S.at floats.now e) (lent_at S.at least.entry e)
+        (S.at y.now e)) (λ e. AreHalf (boxes_at S.at floats.now e)
+        (S.at y.now e ∷ option_to_list (lent_at S.at least.entry e))) }
 {
     // Lines and blocks ask here alike, so that `clear` on a float means one thing.
     let lowest = lowest_or(calc, floats, clear, y);
@@ -368,9 +375,8 @@ pub fn float_top<S: Steady>(
 /// The same float again.
 fn copy_float<S: Steady>(calc: &mut S, f: &PlacedFloat<S::Num>) -> PlacedFloat<S::Num>
     ensures { Lays S.run calc.old calc.new (box_at S.at result) (box_at S.at f.now)
-        (λ e. AllSmall
-        (S.at f.now.outer.left e ∷ S.at f.now.outer.top e ∷ S.at f.now.outer.right e ∷ S.at f.now.outer.bottom e
-        ∷ [])) }
+        (λ e. AllSmall (S.at f.now.outer.left e ∷ S.at f.now.outer.top e ∷ S.at f.now.outer.right e
+        ∷ S.at f.now.outer.bottom e ∷ [])) }
 {
     let left = calc.copy(&f.outer.left);
     let top = calc.copy(&f.outer.top);
@@ -394,10 +400,10 @@ pub fn copy<S: Steady>(
     floats: &[PlacedFloat<S::Num>],
 ) -> Floats<S::Num>
     ensures goes { Goes (S.run calc.old) (S.run calc.new) }
-    ensures value { (e : Reading) → IsTrue ((S.run calc.new).is_open e)
-        → floats_at S.at result e ≡ boxes_at S.at floats.now e }
-    ensures cause { BlamesButMem (S.run calc.old) (S.run calc.new) ((e : Reading) → IsTrue ((S.run calc.old).is_open e)
-        → AreHalf (boxes_at S.at floats.now e) []) }
+    ensures value { WhereOpen (S.run calc.new).is_open
+        (λ e. floats_at S.at result e ≡ boxes_at S.at floats.now e) }
+    ensures cause { BlamesButMem (S.run calc.old) (S.run calc.new)
+        (WhereOpen (S.run calc.old).is_open (λ e. AreHalf (boxes_at S.at floats.now e) [])) }
     ensures ended { result.ended ≡ None }
 {
     let mut out = Floats::new(alloc);

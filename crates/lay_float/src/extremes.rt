@@ -1,4 +1,5 @@
 ghost use Rattle.std.specs.Prelude.{◌≡◌, ⊤, IsTrue, true, is_some};
+ghost use Rattle.viz_calc.specs.State.{WhereOpen};
 ghost use Rattle.std.specs.Int.{int_max, int_min};
 ghost use Rattle.viz_calc.specs.World.{Reading};
 ghost use Rattle.viz_calc.specs.Run.{Goes, Blames, Lays};
@@ -10,14 +11,16 @@ use viz_calc::Steady;
 
 /// The greater of two numbers.
 pub fn larger<'a, S: Steady>(calc: &mut S, a: &'a S::Num, b: &'a S::Num) -> &'a S::Num
-    ensures { Lays S.run calc.old calc.new (S.at result.now) (λ e. int_max (S.at a.now e) (S.at b.now e)) (λ e. ⊤) }
+    ensures { Lays S.run calc.old calc.new (S.at result.now)
+        (λ e. int_max (S.at a.now e) (S.at b.now e)) (λ e. ⊤) }
 {
     if calc.le(a, b) { b } else { a }
 }
 
 /// The lesser of two numbers.
 pub fn smaller<'a, S: Steady>(calc: &mut S, a: &'a S::Num, b: &'a S::Num) -> &'a S::Num
-    ensures { Lays S.run calc.old calc.new (S.at result.now) (λ e. int_min (S.at a.now e) (S.at b.now e)) (λ e. ⊤) }
+    ensures { Lays S.run calc.old calc.new (S.at result.now)
+        (λ e. int_min (S.at a.now e) (S.at b.now e)) (λ e. ⊤) }
 {
     if calc.le(a, b) { a } else { b }
 }
@@ -29,8 +32,8 @@ pub fn innermost<'a, S: Steady>(
     a: &'a S::Num,
     b: &'a S::Num,
 ) -> &'a S::Num
-    ensures { Lays S.run calc.old calc.new (S.at result.now) (λ e. innermost side (S.at a.now e) (S.at b.now e))
-        (λ e. ⊤) }
+    ensures { Lays S.run calc.old calc.new (S.at result.now)
+        (λ e. innermost side (S.at a.now e) (S.at b.now e)) (λ e. ⊤) }
 {
     match side {
         Side::Left => larger(calc, a, b),
@@ -46,8 +49,8 @@ pub fn tighter<'a, S: Steady>(
     limit: Option<&'a S::Num>,
 ) -> Option<&'a S::Num>
     ensures goes { Goes (S.run calc.old) (S.run calc.new) }
-    ensures value { (e : Reading) → IsTrue ((S.run calc.new).is_open e) → lent_at S.at result e
-        ≡ tighter side (S.at edge.now e) (lent_at S.at limit.entry e) }
+    ensures value { WhereOpen (S.run calc.new).is_open
+        (λ e. lent_at S.at result e ≡ tighter side (S.at edge.now e) (lent_at S.at limit.entry e)) }
     ensures some { is_some result ≡ true }
     ensures cause { Blames (S.run calc.old) (S.run calc.new) ⊤ }
 {

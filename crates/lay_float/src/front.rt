@@ -1,7 +1,7 @@
 ghost use Rattle.std.specs.Prelude.{◌≡◌, ◌∷◌, [], ◌++◌, IsTrue, IfOk, IfErr, OnErr, is_some};
 ghost use Rattle.std.specs.List.{list_any};
 ghost use Rattle.viz_calc.specs.World.{Reading};
-ghost use Rattle.viz_calc.specs.State.{Grows, AreOpen, CauseButMem, Cause};
+ghost use Rattle.viz_calc.specs.State.{Grows, AreOpen, CauseButMem, Cause, WhereOpen};
 ghost use Rattle.viz_calc.specs.Renderings.{spot_at, band_at as stretch_at};
 ghost use Rattle.layout_semantics.specs.Floats.{placed_float, float_at, band_at, is_relevant, lowest_bottom};
 ghost use Rattle.lay_float.specs.Agreement.{Agree};
@@ -18,11 +18,11 @@ impl<N: Drop> Floats<N> {
     /// An equal list. `Mem` for want of memory, and `Coeff` where a coefficient passes its limit.
     pub fn copy<C: Calc<Num = N>>(&self, calc: &mut C) -> Result<Floats<N>, Halt>
         ensures grows { Grows (C.state calc.old) (C.state calc.new) }
-        ensures value { IfOk result (λ r. (e : Reading) → IsTrue ((C.state calc.new).is_open e) → floats_at C.at r e
-            ≡ floats_at C.at self.now e) }
+        ensures value { IfOk result (λ r. WhereOpen (C.state calc.new).is_open
+            (λ e. floats_at C.at r e ≡ floats_at C.at self.now e)) }
         ensures kept { AreOpen (C.state calc.old).kept (C.state calc.new) }
         ensures cause { IfErr result (CauseButMem (C.state calc.old) (C.state calc.new)
-            ((e : Reading) → IsTrue ((C.state calc.old).is_open e) → AreHalf (floats_at C.at self.now e) [])) }
+            (WhereOpen (C.state calc.old).is_open (λ e. AreHalf (floats_at C.at self.now e) []))) }
         ensures agrees { IfOk result (λ r. Agree C.at (C.state calc.new).is_open r) }
     {
         let mut latch = Latch::new(calc);
@@ -43,21 +43,24 @@ impl<N: Drop> Floats<N> {
     ) -> Result<Spot<N>, Halt>
         requires { Agree C.at (C.state calc.old).is_open self.old }
         ensures grows { Grows (C.state calc.old) (C.state calc.new) }
-        ensures value { IfOk result (λ r. (e : Reading) → IsTrue ((C.state calc.new).is_open e)
-            → spot_at C.at r e ≡ float_at (floats_at C.at self.old e) side (extent_at C.at size.now e)
-            (stretch_at C.at cb.now e) (C.at top.now e)) }
-        ensures highest { IfOk result (λ r. (e : Reading) → IsTrue ((C.state calc.new).is_open e)
-            → IsHighest (floats_at C.at self.old e) side (C.at size.now.width e) (stretch_at C.at cb.now e)
-            (C.at top.now e) (spot_at C.at r e)) }
-        ensures appended { IfOk result (λ r. (e : Reading) → IsTrue ((C.state calc.new).is_open e)
-            → floats_at C.at self.new e ≡ floats_at C.at self.old e ++ placed_float side
-            (extent_at C.at size.now e) (spot_at C.at r e) ∷ []) }
+        ensures value { IfOk result (λ r. WhereOpen (C.state calc.new).is_open
+            (λ e. spot_at C.at r e ≡ float_at (floats_at C.at self.old e) side
+            (extent_at C.at size.now e) (stretch_at C.at cb.now e) (C.at top.now e))) }
+        ensures highest { IfOk result (λ r. WhereOpen (C.state calc.new).is_open
+            (λ e. IsHighest (floats_at C.at self.old e) side (C.at size.now.width e)
+            (stretch_at C.at cb.now e) (C.at top.now e) (spot_at C.at r e))) }
+        ensures appended { IfOk result
+            (λ r. WhereOpen (C.state calc.new).is_open
+            (λ e. floats_at C.at self.new e
+            ≡ floats_at C.at self.old e ++ placed_float side (extent_at C.at size.now e)
+            (spot_at C.at r e) ∷ [])) }
         ensures halted { OnErr result (self.new ≡ self.old) }
         ensures kept { AreOpen (C.state calc.old).kept (C.state calc.new) }
-        ensures cause { IfErr result (CauseButMem (C.state calc.old) (C.state calc.new) ((e : Reading)
-            → IsTrue ((C.state calc.old).is_open e)
-            → AreHalf (floats_at C.at self.old e) (C.at size.now.width e ∷ C.at size.now.height e ∷ C.at cb.now.left e
-            ∷ C.at cb.now.right e ∷ C.at top.now e ∷ []))) }
+        ensures cause { IfErr result (CauseButMem (C.state calc.old) (C.state calc.new)
+            (WhereOpen (C.state calc.old).is_open
+            (λ e. AreHalf (floats_at C.at self.old e)
+            (C.at size.now.width e ∷ C.at size.now.height e ∷ C.at cb.now.left e
+            ∷ C.at cb.now.right e ∷ C.at top.now e ∷ [])))) }
         ensures agrees { Agree C.at (C.state calc.new).is_open self.new }
     {
         let mut latch = Latch::new(calc);
@@ -75,14 +78,14 @@ impl<N: Drop> Floats<N> {
         h: &N,
     ) -> Result<Band<N>, Halt>
         ensures grows { Grows (C.state calc.old) (C.state calc.new) }
-        ensures value { IfOk result (λ r. (e : Reading) → IsTrue ((C.state calc.new).is_open e)
-            → stretch_at C.at r e ≡ band_at (floats_at C.at self.now e) (stretch_at C.at cb.now e) (C.at y.now e)
-            (C.at h.now e)) }
+        ensures value { IfOk result (λ r. WhereOpen (C.state calc.new).is_open
+            (λ e. stretch_at C.at r e ≡ band_at (floats_at C.at self.now e)
+            (stretch_at C.at cb.now e) (C.at y.now e) (C.at h.now e))) }
         ensures kept { AreOpen (C.state calc.old).kept (C.state calc.new) }
-        ensures cause { IfErr result (Cause (C.state calc.old) (C.state calc.new) ((e : Reading)
-            → IsTrue ((C.state calc.old).is_open e)
-            → AreHalf (floats_at C.at self.now e) (C.at cb.now.left e ∷ C.at cb.now.right e ∷ C.at y.now e
-            ∷ C.at h.now e ∷ []))) }
+        ensures cause { IfErr result (Cause (C.state calc.old) (C.state calc.new)
+            (WhereOpen (C.state calc.old).is_open
+            (λ e. AreHalf (floats_at C.at self.now e)
+            (C.at cb.now.left e ∷ C.at cb.now.right e ∷ C.at y.now e ∷ C.at h.now e ∷ [])))) }
     {
         let mut latch = Latch::new(calc);
         let band = engine::band(&mut latch, self.placed.as_slice(), cb, y, h);
@@ -93,13 +96,13 @@ impl<N: Drop> Floats<N> {
     /// 2.1, 9.5.2). Errors as those of `band`.
     pub fn bottom<C: Calc<Num = N>>(&self, calc: &mut C, clear: Clear) -> Result<Option<N>, Halt>
         ensures grows { Grows (C.state calc.old) (C.state calc.new) }
-        ensures value { IfOk result (λ r. (e : Reading) → IsTrue ((C.state calc.new).is_open e)
-            → option_at C.at r e ≡ lowest_bottom clear (floats_at C.at self.now e)) }
+        ensures value { IfOk result (λ r. WhereOpen (C.state calc.new).is_open
+            (λ e. option_at C.at r e ≡ lowest_bottom clear (floats_at C.at self.now e))) }
         ensures some { IfOk result (λ r. (e : Reading) → is_some r
             ≡ list_any (is_relevant clear) (floats_at C.at self.now e)) }
         ensures kept { AreOpen (C.state calc.old).kept (C.state calc.new) }
         ensures cause { IfErr result (Cause (C.state calc.old) (C.state calc.new)
-            ((e : Reading) → IsTrue ((C.state calc.old).is_open e) → AreHalf (floats_at C.at self.now e) [])) }
+            (WhereOpen (C.state calc.old).is_open (λ e. AreHalf (floats_at C.at self.now e) []))) }
     {
         let mut latch = Latch::new(calc);
         let bottom = engine::bottom(&mut latch, self.placed.as_slice(), clear);

@@ -1,6 +1,6 @@
 ghost use Rattle.std.specs.Prelude.{◌≡◌, ⊤, ◌∷◌, [], None, IsTrue, length};
 ghost use Rattle.viz_calc.specs.World.{Reading};
-ghost use Rattle.viz_calc.specs.State.{AllSmall};
+ghost use Rattle.viz_calc.specs.State.{AllSmall, WhereOpen};
 ghost use Rattle.viz_calc.specs.Run.{Goes, Blames, Lays};
 ghost use Rattle.viz_calc.specs.Renderings.{band_at};
 ghost use Rattle.lay_float.specs.Readings.{box_at, boxes_at};
@@ -117,7 +117,8 @@ fn with_float<'a, S: Steady>(
     f: &'a PlacedFloat<S::Num>,
 ) -> Shelf<'a, S::Num>
     ensures { Lays S.run calc.old calc.new (shelf_at S.at result)
-        (λ e. with_float side (S.at y.now e) (shelf_at S.at shelf.entry e) (box_at S.at f.now e)) (λ e. ⊤) }
+        (λ e. with_float side (S.at y.now e) (shelf_at S.at shelf.entry e) (box_at S.at f.now e))
+        (λ e. ⊤) }
 {
     // The bottom alone is asked: no top is below the height that is tried.
     if calc.le(&f.outer.bottom, y) {
@@ -136,7 +137,8 @@ fn shelf_on<'a, S: Steady>(
     y: &S::Num,
 ) -> Shelf<'a, S::Num>
     ensures { Lays S.run calc.old calc.new (shelf_at S.at result)
-        (λ e. shelf_on (boxes_at S.at floats.now e) side (band_at S.at cb.now e) (S.at y.now e)) (λ e. ⊤) }
+        (λ e. shelf_on (boxes_at S.at floats.now e) side (band_at S.at cb.now e) (S.at y.now e))
+        (λ e. ⊤) }
 {
     let mut shelf = Shelf {
         edge: side_edge(cb, side),
@@ -158,7 +160,8 @@ fn limit_of<'a, S: Steady>(
     is_bounded: bool,
 ) -> Option<&'a S::Num>
     ensures { Lays S.run calc.old calc.new (lent_at S.at result)
-        (λ e. limit_of side (band_at S.at cb.now e) is_bounded (lent_at S.at limit.entry e)) (λ e. ⊤) }
+        (λ e. limit_of side (band_at S.at cb.now e) is_bounded (lent_at S.at limit.entry e))
+        (λ e. ⊤) }
 {
     // Rule 7 binds only a float with another of its side before it: a wide one alone may stick out.
     if is_bounded {
@@ -171,7 +174,8 @@ fn limit_of<'a, S: Steady>(
 
 /// The other edge of a float that stands at an edge.
 fn far_edge<S: Steady>(calc: &mut S, side: Side, edge: &S::Num, width: &S::Num) -> S::Num
-    ensures { Lays S.run calc.old calc.new (S.at result) (λ e. far_edge side (S.at edge.now e) (S.at width.now e))
+    ensures { Lays S.run calc.old calc.new (S.at result)
+        (λ e. far_edge side (S.at edge.now e) (S.at width.now e))
         (λ e. AllSmall (far_edge side (S.at edge.now e) (S.at width.now e) ∷ [])) }
 {
     match side {
@@ -182,8 +186,8 @@ fn far_edge<S: Steady>(calc: &mut S, side: Side, edge: &S::Num, width: &S::Num) 
 
 /// Whether an edge does not pass a limit.
 fn reaches_to<S: Steady>(calc: &mut S, side: Side, edge: &S::Num, limit: &S::Num) -> bool
-    ensures { Lays S.run calc.old calc.new (λ e. result) (λ e. reaches_to side (S.at edge.now e) (S.at limit.now e))
-        (λ e. ⊤) }
+    ensures { Lays S.run calc.old calc.new (λ e. result)
+        (λ e. reaches_to side (S.at edge.now e) (S.at limit.now e)) (λ e. ⊤) }
 {
     match side {
         Side::Left => calc.le(edge, limit),
@@ -200,8 +204,9 @@ fn stays_within<S: Steady>(
     limit: Option<&S::Num>,
 ) -> bool
     ensures { Lays S.run calc.old calc.new (λ e. result)
-        (λ e. stays_within side (far_edge side (S.at edge.now e) (S.at width.now e)) (lent_at S.at limit.entry e))
-        (λ e. AllSmall (far_edge side (S.at edge.now e) (S.at width.now e) ∷ [])) }
+        (λ e. stays_within side (far_edge side (S.at edge.now e) (S.at width.now e))
+        (lent_at S.at limit.entry e)) (λ e. AllSmall
+        (far_edge side (S.at edge.now e) (S.at width.now e) ∷ [])) }
 {
     match limit {
         None => true,
@@ -288,9 +293,9 @@ pub fn stand<'a, S: Steady>(
     y: &S::Num,
 ) -> Option<&'a S::Num>
     ensures goes { Goes (S.run calc.old) (S.run calc.new) }
-    ensures value { (e : Reading) → IsTrue ((S.run calc.new).is_open e)
-        → lent_at S.at result e ≡ stand (boxes_at S.at floats.now e) side (S.at width.now e)
-        (band_at S.at cb.now e) (S.at y.now e) }
+    ensures value { WhereOpen (S.run calc.new).is_open
+        (λ e. lent_at S.at result e ≡ stand (boxes_at S.at floats.now e) side (S.at width.now e)
+        (band_at S.at cb.now e) (S.at y.now e)) }
     ensures cause { Blames (S.run calc.old) (S.run calc.new)
         (FitsAnywhere (S.run calc.old) S.at floats.now side cb.now width.now) }
 {
@@ -311,7 +316,8 @@ pub fn farthest<'a, S: Steady>(
     y: &'a S::Num,
 ) -> Place<'a, S::Num>
     ensures { Lays S.run calc.old calc.new (place_at S.at result)
-        (λ e. place_on (boxes_at S.at floats.now e) side (band_at S.at cb.now e) (S.at y.now e)) (λ e. ⊤) }
+        (λ e. place_on (boxes_at S.at floats.now e) side (band_at S.at cb.now e) (S.at y.now e))
+        (λ e. ⊤) }
 {
     let shelf = shelf_on(calc, floats, side, cb, y);
     Place {
@@ -350,10 +356,10 @@ pub fn place_among_few<'a, S: Steady>(
     high: &'a S::Num,
 ) -> Place<'a, S::Num>
     ensures goes { Goes (S.run calc.old) (S.run calc.new) }
-    ensures value { (e : Reading) → IsTrue ((S.run calc.new).is_open e)
-        → place_at S.at result e ≡ place_on (boxes_at S.at floats.now e) side (band_at S.at cb.now e)
-        (free_top (length floats.now) (boxes_at S.at floats.now e) side (S.at width.now e) (band_at S.at cb.now e)
-        (S.at high.now e)) }
+    ensures value { WhereOpen (S.run calc.new).is_open
+        (λ e. place_at S.at result e ≡ place_on (boxes_at S.at floats.now e) side
+        (band_at S.at cb.now e) (free_top (length floats.now) (boxes_at S.at floats.now e) side
+        (S.at width.now e) (band_at S.at cb.now e) (S.at high.now e))) }
     ensures cause { Blames (S.run calc.old) (S.run calc.new)
         (FitsAnywhere (S.run calc.old) S.at floats.now side cb.now width.now) }
 {

@@ -42,9 +42,8 @@ pub struct Coming<'a, N> {
 /// The same float again.
 fn again<S: Steady>(calc: &mut S, f: &PlacedFloat<S::Num>) -> PlacedFloat<S::Num>
     ensures { Lays S.run calc.old calc.new (box_at S.at result) (box_at S.at f.now)
-        (λ e. AllSmall
-        (S.at f.now.outer.left e ∷ S.at f.now.outer.top e ∷ S.at f.now.outer.right e ∷ S.at f.now.outer.bottom e
-        ∷ [])) }
+        (λ e. AllSmall (S.at f.now.outer.left e ∷ S.at f.now.outer.top e ∷ S.at f.now.outer.right e
+        ∷ S.at f.now.outer.bottom e ∷ [])) }
 {
     let left = calc.copy(&f.outer.left);
     let top = calc.copy(&f.outer.top);
@@ -63,8 +62,8 @@ fn again<S: Steady>(calc: &mut S, f: &PlacedFloat<S::Num>) -> PlacedFloat<S::Num
 
 /// Puts a float behind others.
 fn put<S: Steady>(calc: &mut S, floats: &mut Floats<S::Num>, placed: PlacedFloat<S::Num>)
-    ensures { LaysButMem S.run calc.old calc.new (λ e. floats.new.placed) (λ e. floats.old.placed ++ placed ∷ [])
-        (λ e. ⊤) }
+    ensures { LaysButMem S.run calc.old calc.new (λ e. floats.new.placed)
+        (λ e. floats.old.placed ++ placed ∷ []) (λ e. ⊤) }
 {
     match floats.placed.push(placed) {
         Ok(()) => {}
@@ -84,9 +83,8 @@ fn reaches<S: Steady>(calc: &mut S, f: &PlacedFloat<S::Num>, level: &S::Num) -> 
 fn keep<S: Steady>(calc: &mut S, f: &PlacedFloat<S::Num>, level: &S::Num, out: &mut Floats<S::Num>)
     ensures { LaysButMem S.run calc.old calc.new (floats_at S.at out.new)
         (λ e. floats_at S.at out.old e ++ reaching (S.at level.now e) (box_at S.at f.now e ∷ []))
-        (λ e. AllSmall
-        (S.at f.now.outer.left e ∷ S.at f.now.outer.top e ∷ S.at f.now.outer.right e ∷ S.at f.now.outer.bottom e
-        ∷ [])) }
+        (λ e. AllSmall (S.at f.now.outer.left e ∷ S.at f.now.outer.top e ∷ S.at f.now.outer.right e
+        ∷ S.at f.now.outer.bottom e ∷ [])) }
 {
     if reaches(calc, f, level) {
         let copied = again(calc, f);
@@ -121,11 +119,11 @@ fn spot_among<S: Steady>(
     y: &S::Num,
 ) -> Spot<S::Num>
     ensures { LaysButMem S.run calc.old calc.new (spot_at S.at result)
-        (λ e. float_spot (coming_at S.at f.now e) (boxes_at S.at floats.now e) (lent_at S.at least.entry e)
-        (S.at y.now e))
+        (λ e. float_spot (coming_at S.at f.now e) (boxes_at S.at floats.now e)
+        (lent_at S.at least.entry e) (S.at y.now e))
         (λ e. AreHalf (boxes_at S.at floats.now e)
-        (S.at f.now.size.now.width e ∷ S.at f.now.cb.now.left e ∷ S.at f.now.cb.now.right e ∷ S.at y.now e
-        ∷ option_to_list (lent_at S.at least.entry e))) }
+        (S.at f.now.size.now.width e ∷ S.at f.now.cb.now.left e ∷ S.at f.now.cb.now.right e
+        ∷ S.at y.now e ∷ option_to_list (lent_at S.at least.entry e))) }
 {
     let top = float_top(calc, floats, f.clear, least, y);
     float_at(calc, floats, f.side, f.size, f.cb, &top)
@@ -166,8 +164,8 @@ fn add<S: Steady>(
     floats: &mut Floats<S::Num>,
 )
     ensures { LaysButMem S.run calc.old calc.new (floats_at S.at floats.new)
-        (λ e. with_float_at (coming_at S.at f.now e) (floats_at S.at floats.old e) (spot_at S.at spot.now e))
-        (λ e. AllSmall
+        (λ e. with_float_at (coming_at S.at f.now e) (floats_at S.at floats.old e)
+        (spot_at S.at spot.now e)) (λ e. AllSmall
         (S.at spot.now.x e ∷ S.at spot.now.y e ∷ (S.at spot.now.x e +ℤ S.at f.now.size.now.width e)
         ∷ (S.at spot.now.y e +ℤ S.at f.now.size.now.height e) ∷ [])) }
 {
@@ -213,8 +211,8 @@ pub fn begin<S: Steady>(
     y: &S::Num,
 ) -> Trial<S::Num>
     ensures { LaysButMem S.run calc.old calc.new (trial_at S.at result)
-        (λ e. first_tried (coming_at S.at f.now e) (boxes_at S.at floats.now e) (lent_at S.at least.entry e)
-        (S.at y.now e))
+        (λ e. first_tried (coming_at S.at f.now e) (boxes_at S.at floats.now e)
+        (lent_at S.at least.entry e) (S.at y.now e))
         (λ e. AreHalf (boxes_at S.at floats.now e)
         (S.at f.now.size.now.width e ∷ S.at f.now.size.now.height e ∷ S.at f.now.cb.now.left e
         ∷ S.at f.now.cb.now.right e ∷ S.at y.now e ∷ option_to_list (lent_at S.at least.entry e))) }
@@ -233,10 +231,11 @@ pub fn go_on<S: Steady>(
     before: Trial<S::Num>,
 ) -> Trial<S::Num>
     ensures { LaysButMem S.run calc.old calc.new (trial_at S.at result)
-        (λ e. next_tried (coming_at S.at f.now e) (lent_at S.at least.entry e) (trial_at S.at before e))
-        (λ e. AreHalf (floats_at S.at before.near e)
+        (λ e. next_tried (coming_at S.at f.now e) (lent_at S.at least.entry e)
+        (trial_at S.at before e)) (λ e. AreHalf (floats_at S.at before.near e)
         (S.at f.now.size.now.width e ∷ S.at f.now.size.now.height e ∷ S.at f.now.cb.now.left e
-        ∷ S.at f.now.cb.now.right e ∷ S.at before.level e ∷ option_to_list (lent_at S.at least.entry e))) }
+        ∷ S.at f.now.cb.now.right e ∷ S.at before.level e
+        ∷ option_to_list (lent_at S.at least.entry e))) }
 {
     let Trial { all, near, level } = before;
     let near = still_open(alloc, calc, near.placed.as_slice(), &level);

@@ -1,5 +1,6 @@
 //! Boxes in coordinates of their own: floats, atomic boxes and the root (CSS 2.1, 9.4.1, 9.5).
 ghost use Rattle.std.specs.Prelude.{◌≡◌, ◌<◌, length, IsTrue};
+ghost use Rattle.viz_calc.specs.State.{WhereOpen};
 ghost use Rattle.viz_calc.specs.World.{Reading};
 ghost use Rattle.viz_calc.specs.Run.{Stands, Goes, BlamesButMem, Lays, LaysButMem};
 ghost use Rattle.viz_calc.specs.Renderings.{placed_at};
@@ -49,11 +50,12 @@ fn widths<S: Steady>(
     requires { AreFound S.at (S.run calc.old) tree.now found.old.widths.items }
     ensures goes { Goes (S.run calc.old) (S.run calc.new) }
     ensures found { AreFound S.at (S.run calc.new) tree.now found.new.widths.items }
-    ensures value { (e : Reading) → IsTrue ((S.run calc.new).is_open e) → widths_at S.at result e
-        ≡ widths_of tree.now e.world b (S.at room.now e) }
-    ensures cause { BlamesButMem (S.run calc.old) (S.run calc.new) (BoxesFit tree.now (S.run calc.old).is_open
-        × ((e : Reading) → IsTrue ((S.run calc.old).is_open e)
-        → IsShapeFit tree.now e.world b (S.at room.now e))) }
+    ensures value { WhereOpen (S.run calc.new).is_open
+        (λ e. widths_at S.at result e ≡ widths_of tree.now e.world b (S.at room.now e)) }
+    ensures cause { BlamesButMem (S.run calc.old) (S.run calc.new)
+        (BoxesFit tree.now (S.run calc.old).is_open
+        × (WhereOpen (S.run calc.old).is_open
+        (λ e. IsShapeFit tree.now e.world b (S.at room.now e)))) }
 {
     match placed_as(tree, b) {
         Placing::Block => block(calc, tree, b, room),
@@ -81,8 +83,8 @@ pub fn room<S: Steady>(
     ensures goes { Goes (S.run calc.old) (S.run calc.new) }
     ensures found { AreFound S.at (S.run calc.new) tree.now found.new.widths.items }
     ensures value { Stands (S.run calc.new) (S.at result) (λ e. room_to levels tree.now e.world b) }
-    ensures cause { BlamesButMem (S.run calc.old) (S.run calc.new) (AllFit tree.now (S.run calc.old).is_open
-        (λ e. RoomFits tree.now e.world levels b)) }
+    ensures cause { BlamesButMem (S.run calc.old) (S.run calc.new)
+        (AllFit tree.now (S.run calc.old).is_open (λ e. RoomFits tree.now e.world levels b)) }
 {
     if levels == 0 {
         return calc.width();
@@ -113,11 +115,12 @@ fn corner_shape<S: Steady>(
     requires { AreFound S.at (S.run calc.old) tree.now found.old.widths.items }
     ensures goes { Goes (S.run calc.old) (S.run calc.new) }
     ensures found { AreFound S.at (S.run calc.new) tree.now found.new.widths.items }
-    ensures value { (e : Reading) → IsTrue ((S.run calc.new).is_open e) → frame_at S.at result e
-        ≡ corner_of tree.now e.world b (S.at room.now e) }
-    ensures cause { BlamesButMem (S.run calc.old) (S.run calc.new) (BoxesFit tree.now (S.run calc.old).is_open
-        × ((e : Reading) → IsTrue ((S.run calc.old).is_open e)
-        → IsShapeFit tree.now e.world b (S.at room.now e))) }
+    ensures value { WhereOpen (S.run calc.new).is_open
+        (λ e. frame_at S.at result e ≡ corner_of tree.now e.world b (S.at room.now e)) }
+    ensures cause { BlamesButMem (S.run calc.old) (S.run calc.new)
+        (BoxesFit tree.now (S.run calc.old).is_open
+        × (WhereOpen (S.run calc.old).is_open
+        (λ e. IsShapeFit tree.now e.world b (S.at room.now e)))) }
 {
     let x = widths(alloc, calc, tree, found, b, room);
     let v = verticals(calc, tree, b, room);
@@ -132,7 +135,8 @@ fn corner_shape<S: Steady>(
 
 /// The size of a box's outer box.
 fn outer_extent<S: Steady>(calc: &mut S, placed: &Placed<S::Num>) -> Extent<S::Num>
-    ensures { Lays S.run calc.old calc.new (extent_at S.at result) (λ e. extent_of (placed_at S.at placed.now e))
+    ensures { Lays S.run calc.old calc.new (extent_at S.at result)
+        (λ e. extent_of (placed_at S.at placed.now e))
         (λ e. IsQuadIn near (placed_at S.at placed.now e).margin) }
 {
     let width = calc.sub(&placed.margin.right, &placed.margin.left);
@@ -151,9 +155,9 @@ fn replaced_alone<S: Steady>(
     shape: &Shape<S::Num>,
 ) -> Alone<S::Num>
     ensures { LaysButMem S.run calc.old calc.new (alone_at S.at result)
-        (λ e. replaced_alone_of page.now.tree.now e.world b (S.at room.now e) (frame_at S.at shape.now e))
-        (λ e. IsReplacedFit page.now.tree.now e.world b (S.at room.now e)
-        × IsFrameLow (frame_at S.at shape.now e)) }
+        (λ e. replaced_alone_of page.now.tree.now e.world b (S.at room.now e)
+        (frame_at S.at shape.now e)) (λ e. IsReplacedFit page.now.tree.now e.world b
+        (S.at room.now e) × IsFrameLow (frame_at S.at shape.now e)) }
 {
     let placed = replaced_box(calc, page, b, room, shape);
     let size = outer_extent(calc, &placed);
@@ -177,10 +181,11 @@ fn context_alone<S: Steady>(
 ) -> Alone<S::Num>
     requires { b < length page.now.tree.now.boxes }
     ensures goes { Goes (S.run calc.old) (S.run calc.new) }
-    ensures value { (e : Reading) → IsTrue ((S.run calc.new).is_open e) → alone_at S.at result e
-        ≡ context_alone_of page.now.tree.now e.world (apart_at S.at page.now.apart.now e) b
-        (frame_at S.at shape.now e) }
-    ensures cause { BlamesButMem (S.run calc.old) (S.run calc.new) (AllFit page.now.tree.now (S.run calc.old).is_open
+    ensures value { WhereOpen (S.run calc.new).is_open
+        (λ e. alone_at S.at result e ≡ context_alone_of page.now.tree.now e.world
+        (apart_at S.at page.now.apart.now e) b (frame_at S.at shape.now e)) }
+    ensures cause { BlamesButMem (S.run calc.old) (S.run calc.new)
+        (AllFit page.now.tree.now (S.run calc.old).is_open
         (λ e. RootFits page.now.tree.now e.world (apart_at S.at page.now.apart.now e) b
         (frame_at S.at shape.now e))) }
 {
@@ -216,10 +221,11 @@ pub fn alone<S: Steady>(
     requires found { AreFound S.at (S.run calc.old) page.now.tree.now found.old.widths.items }
     ensures goes { Goes (S.run calc.old) (S.run calc.new) }
     ensures found { AreFound S.at (S.run calc.new) page.now.tree.now found.new.widths.items }
-    ensures value { (e : Reading) → IsTrue ((S.run calc.new).is_open e) → alone_at S.at result e
-        ≡ alone_of page.now.tree.now e.world (apart_at S.at page.now.apart.now e) b
-        (S.at room.now e) }
-    ensures cause { BlamesButMem (S.run calc.old) (S.run calc.new) (AllFit page.now.tree.now (S.run calc.old).is_open
+    ensures value { WhereOpen (S.run calc.new).is_open
+        (λ e. alone_at S.at result e ≡ alone_of page.now.tree.now e.world
+        (apart_at S.at page.now.apart.now e) b (S.at room.now e)) }
+    ensures cause { BlamesButMem (S.run calc.old) (S.run calc.new)
+        (AllFit page.now.tree.now (S.run calc.old).is_open
         (λ e. AloneFits page.now.tree.now e.world (apart_at S.at page.now.apart.now e) b
         (S.at room.now e))) }
 {

@@ -30,7 +30,8 @@ fn copy_extent<S: Steady>(calc: &mut S, size: &Extent<S::Num>) -> Extent<S::Num>
 #[tactic(auto, unfolding(crate::specs::Readings::apart_at))]
 /// The outer size of a float or an atomic box.
 pub fn size_of<S: Steady>(calc: &mut S, apart: &[Option<Alone<S::Num>>], at: u32) -> Extent<S::Num>
-    ensures { Lays S.run calc.old calc.new (extent_at S.at result) (λ e. (apart_at S.at apart.now e at).size)
+    ensures { Lays S.run calc.old calc.new (extent_at S.at result)
+        (λ e. (apart_at S.at apart.now e at).size)
         (λ e. IsExtentIn reach (apart_at S.at apart.now e at).size) }
 {
     match apart.get(at as usize) {
@@ -90,8 +91,10 @@ fn add_each<S: Steady>(
     out: &mut Vec<Placed<S::Num>>,
 )
     ensures { LaysButMem S.run calc.old calc.new (boxes_at S.at out.new.items)
-        (λ e. boxes_at S.at out.old.items e ++ shifted (spot_at S.at by.now e) (boxes_at S.at boxes.now e))
-        (λ e. IsSpotNear (spot_at S.at by.now e) × AllByRecursion (IsPlacedIn reach) (boxes_at S.at boxes.now e)) }
+        (λ e. boxes_at S.at out.old.items e
+        ++ shifted (spot_at S.at by.now e) (boxes_at S.at boxes.now e))
+        (λ e. IsSpotNear (spot_at S.at by.now e)
+        × AllByRecursion (IsPlacedIn reach) (boxes_at S.at boxes.now e)) }
 {
     for placed in boxes {
         // Moved once for each float or inline-block around it; nothing is laid out again.

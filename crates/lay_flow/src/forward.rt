@@ -95,8 +95,9 @@ fn hypothetical_edge<S: Steady>(
 ) -> S::Num
     requires { b < length way.now.page.now.tree.now.boxes }
     ensures { LaysButMem S.run calc.old calc.new (S.at result)
-        (λ e. hypothetical_of (ground_at S.at way.now e) (band_at S.at cb.now e) b (run_at S.at run.now e))
-        (λ e. IsBaseLow (base_at S.at way.now.base.now e) × IsRunLow (run_at S.at run.now e)
+        (λ e. hypothetical_of (ground_at S.at way.now e) (band_at S.at cb.now e) b
+        (run_at S.at run.now e)) (λ e. IsBaseLow (base_at S.at way.now.base.now e)
+        × IsRunLow (run_at S.at run.now e)
         × IsLeadLow way.now.page.now.tree.now e.world (band_at S.at cb.now e) b) }
 {
     // The run goes on from here whatever is decided, so the margins of this question are joined to a copy.
@@ -158,8 +159,9 @@ fn try_next<S: Steady>(
     before: Trial<S::Num>,
 ) -> Trial<S::Num>
     ensures { LaysButMem S.run calc.old calc.new (trial_at S.at result)
-        (λ e. next_trial (ground_at S.at way.now e) (waiting_one S.at float.now e) (trial_at S.at before e))
-        (λ e. TrialFits (ground_at S.at way.now e) (trial_at S.at before e) (waiting_one S.at float.now e ∷ [])) }
+        (λ e. next_trial (ground_at S.at way.now e) (waiting_one S.at float.now e)
+        (trial_at S.at before e)) (λ e. TrialFits (ground_at S.at way.now e)
+        (trial_at S.at before e) (waiting_one S.at float.now e ∷ [])) }
 {
     let size = size_of(calc, way.page.apart, float.at);
     let next = coming(way.page.tree, float, &size);
@@ -175,8 +177,9 @@ fn try_others<S: Steady>(
     before: Trial<S::Num>,
 ) -> Trial<S::Num>
     ensures { LaysButMem S.run calc.old calc.new (trial_at S.at result)
-        (λ e. other_trials (ground_at S.at way.now e) (waiting_all S.at waiting.now e) (trial_at S.at before e))
-        (λ e. TrialFits (ground_at S.at way.now e) (trial_at S.at before e) (waiting_all S.at waiting.now e)) }
+        (λ e. other_trials (ground_at S.at way.now e) (waiting_all S.at waiting.now e)
+        (trial_at S.at before e)) (λ e. TrialFits (ground_at S.at way.now e)
+        (trial_at S.at before e) (waiting_all S.at waiting.now e)) }
 {
     let mut trial = before;
     for float in waiting {
@@ -196,8 +199,8 @@ fn bottom_to_clear<S: Steady>(
     y: &S::Num,
 ) -> Option<S::Num>
     ensures { LaysButMem S.run calc.old calc.new (option_at S.at result)
-        (λ e. bottom_of (ground_at S.at way.now e) b (waiting_all S.at waiting.now e) (S.at y.now e))
-        (λ e. WaitingFits (size_in (apart_at S.at way.now.page.now.apart.now e))
+        (λ e. bottom_of (ground_at S.at way.now e) b (waiting_all S.at waiting.now e)
+        (S.at y.now e)) (λ e. WaitingFits (size_in (apart_at S.at way.now.page.now.apart.now e))
         (floats_in S.at way.now.floats.now e) (option_at S.at way.now.least.now e) (S.at y.now e)
         (waiting_all S.at waiting.now e)) }
 {
@@ -235,8 +238,8 @@ fn is_to_clear<S: Steady>(
 ) -> bool
     requires { b < length way.now.page.now.tree.now.boxes }
     ensures { LaysButMem S.run calc.old calc.new (λ e. result)
-        (λ e. to_clear_of (ground_at S.at way.now e) (band_at S.at cb.now e) b (run_at S.at going.now.run e)
-        (waiting_all S.at going.now.waiting e))
+        (λ e. to_clear_of (ground_at S.at way.now e) (band_at S.at cb.now e) b
+        (run_at S.at going.now.run e) (waiting_all S.at going.now.waiting e))
         (λ e. DecisionFitsAt S.at way.now e (band_at S.at cb.now e) b (run_at S.at going.now.run e)
         (waiting_all S.at going.now.waiting e)) }
 {
@@ -258,8 +261,8 @@ fn clear_edge<S: Steady>(
         (waiting_all S.at going.now.waiting e))
         (λ e. IsGroundLow (base_at S.at way.now.base.now e) (floats_in S.at way.now.floats.now e)
         (option_at S.at way.now.least.now e)
-        × IsGoingLow (size_in (apart_at S.at way.now.page.now.apart.now e)) (run_at S.at going.now.run e)
-        (waiting_all S.at going.now.waiting e)) }
+        × IsGoingLow (size_in (apart_at S.at way.now.page.now.apart.now e))
+        (run_at S.at going.now.run e) (waiting_all S.at going.now.waiting e)) }
 {
     let y = edge(calc, way.base, &going.run);
     match bottom_to_clear(alloc, calc, way, b, going.waiting.as_slice(), &y) {
@@ -279,8 +282,8 @@ fn decided<S: Steady>(
 ) -> Option<S::Num>
     requires { b < length way.now.page.now.tree.now.boxes }
     ensures { LaysButMem S.run calc.old calc.new (option_at S.at result)
-        (λ e. decided_of (ground_at S.at way.now e) (band_at S.at cb.now e) b (run_at S.at going.now.run e)
-        (waiting_all S.at going.now.waiting e))
+        (λ e. decided_of (ground_at S.at way.now e) (band_at S.at cb.now e) b
+        (run_at S.at going.now.run e) (waiting_all S.at going.now.waiting e))
         (λ e. DecisionFitsAt S.at way.now e (band_at S.at cb.now e) b (run_at S.at going.now.run e)
         (waiting_all S.at going.now.waiting e)) }
 {
@@ -390,10 +393,12 @@ fn content<S: Steady>(
 ) -> End<S::Num>
     requires { b < length way.now.page.now.tree.now.boxes }
     ensures { LaysButMem S.run calc.old calc.new (found_at S.at going.new result)
-        (λ e. kids_at_reading S.at way.now e (band_at S.at band.now e) (flow_children way.now.page.now.tree.now b)
-        (run_at S.at going.old.run e) (waiting_all S.at going.old.waiting e))
-        (λ e. KidsFitAt S.at way.now e (band_at S.at band.now e) (flow_children way.now.page.now.tree.now b)
-        (run_at S.at going.old.run e) (waiting_all S.at going.old.waiting e)) }
+        (λ e. kids_at_reading S.at way.now e (band_at S.at band.now e)
+        (flow_children way.now.page.now.tree.now b) (run_at S.at going.old.run e)
+        (waiting_all S.at going.old.waiting e))
+        (λ e. KidsFitAt S.at way.now e (band_at S.at band.now e)
+        (flow_children way.now.page.now.tree.now b) (run_at S.at going.old.run e)
+        (waiting_all S.at going.old.waiting e)) }
 {
     let tree = way.page.tree;
     if !holds_inline(tree, b) {
@@ -422,12 +427,13 @@ fn kids<S: Steady>(
 ) -> End<S::Num>
     requires within { b < length way.now.page.now.tree.now.boxes }
     requires behind { (i : ℕ) → i < length boxes.now
-        → (b < slice_index_or boxes.now i 0) × (slice_index_or boxes.now i 0 < length way.now.page.now.tree.now.boxes) }
+        → (b < slice_index_or boxes.now i 0)
+        × (slice_index_or boxes.now i 0 < length way.now.page.now.tree.now.boxes) }
     ensures { LaysButMem S.run calc.old calc.new (found_at S.at going.new result)
-        (λ e. kids_at_reading S.at way.now e (band_at S.at band.now e) boxes.now (run_at S.at going.old.run e)
-        (waiting_all S.at going.old.waiting e))
-        (λ e. KidsFitAt S.at way.now e (band_at S.at band.now e) boxes.now (run_at S.at going.old.run e)
-        (waiting_all S.at going.old.waiting e)) }
+        (λ e. kids_at_reading S.at way.now e (band_at S.at band.now e) boxes.now
+        (run_at S.at going.old.run e) (waiting_all S.at going.old.waiting e))
+        (λ e. KidsFitAt S.at way.now e (band_at S.at band.now e) boxes.now
+        (run_at S.at going.old.run e) (waiting_all S.at going.old.waiting e)) }
 {
     for place in boxes {
         let end = kid(alloc, calc, way, band, *place, going);

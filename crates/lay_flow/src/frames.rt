@@ -1,5 +1,6 @@
 //! Boxes before and after their content (CSS 2.1, 8.1, 10.3, 10.6).
 ghost use Rattle.std.specs.Prelude.{◌≡◌, ◌<◌, length, IsTrue};
+ghost use Rattle.viz_calc.specs.State.{WhereOpen};
 ghost use Rattle.viz_calc.specs.World.{Reading};
 ghost use Rattle.viz_calc.specs.Run.{Goes, BlamesButMem, Lays};
 ghost use Rattle.viz_calc.specs.Renderings.{placed_at, band_at};
@@ -38,11 +39,12 @@ fn widths<S: Steady>(
 ) -> Widths<S::Num>
     requires { b < length page.now.tree.now.boxes }
     ensures goes { Goes (S.run calc.old) (S.run calc.new) }
-    ensures value { (e : Reading) → IsTrue ((S.run calc.new).is_open e) → widths_at S.at result e
-        ≡ widths_of page.now.tree.now e.world b (S.at room.now e) }
-    ensures cause { BlamesButMem (S.run calc.old) (S.run calc.new) (BoxesFit page.now.tree.now (S.run calc.old).is_open
-        × ((e : Reading) → IsTrue ((S.run calc.old).is_open e)
-        → IsShapeFit page.now.tree.now e.world b (S.at room.now e))) }
+    ensures value { WhereOpen (S.run calc.new).is_open
+        (λ e. widths_at S.at result e ≡ widths_of page.now.tree.now e.world b (S.at room.now e)) }
+    ensures cause { BlamesButMem (S.run calc.old) (S.run calc.new)
+        (BoxesFit page.now.tree.now (S.run calc.old).is_open
+        × (WhereOpen (S.run calc.old).is_open
+        (λ e. IsShapeFit page.now.tree.now e.world b (S.at room.now e)))) }
 {
     match placed_as(page.tree, b) {
         Placing::Block => block(calc, page.tree, b, room),
@@ -68,13 +70,15 @@ pub fn shape<S: Steady>(
 ) -> Shape<S::Num>
     requires { b < length page.now.tree.now.boxes }
     ensures goes { Goes (S.run calc.old) (S.run calc.new) }
-    ensures value { (e : Reading) → IsTrue ((S.run calc.new).is_open e) → frame_at S.at result e
-        ≡ frame_of page.now.tree.now e.world b (across_of (band_at S.at cb.now e))
-        (S.at cb.now.left e) (S.at top.now e) }
-    ensures cause { BlamesButMem (S.run calc.old) (S.run calc.new) (BoxesFit page.now.tree.now (S.run calc.old).is_open
-        × ((e : Reading) → IsTrue ((S.run calc.old).is_open e)
-        → IsBandLow (band_at S.at cb.now e) × (IsLevelLow (S.at top.now e)
-        × IsShapeFit page.now.tree.now e.world b (across_of (band_at S.at cb.now e))))) }
+    ensures value { WhereOpen (S.run calc.new).is_open
+        (λ e. frame_at S.at result e ≡ frame_of page.now.tree.now e.world b
+        (across_of (band_at S.at cb.now e)) (S.at cb.now.left e) (S.at top.now e)) }
+    ensures cause { BlamesButMem (S.run calc.old) (S.run calc.new)
+        (BoxesFit page.now.tree.now (S.run calc.old).is_open
+        × (WhereOpen (S.run calc.old).is_open
+        (λ e. IsBandLow (band_at S.at cb.now e)
+        × (IsLevelLow (S.at top.now e)
+        × IsShapeFit page.now.tree.now e.world b (across_of (band_at S.at cb.now e)))))) }
 {
     let room = across(calc, cb);
     let x = widths(alloc, calc, page, b, &room);
@@ -116,8 +120,8 @@ pub fn context_box<S: Steady>(
     end: &Context<S::Num>,
 ) -> Placed<S::Num>
     ensures { Lays S.run calc.old calc.new (placed_at S.at result)
-        (λ e. root_of page.now.tree.now e.world b (frame_at S.at shape.now e) (context_at S.at end.now e))
-        (λ e. IsHeightFit page.now.tree.now e.world b
+        (λ e. root_of page.now.tree.now e.world b (frame_at S.at shape.now e)
+        (context_at S.at end.now e)) (λ e. IsHeightFit page.now.tree.now e.world b
         × (IsFrameLow (frame_at S.at shape.now e) × IsContextLow (context_at S.at end.now e))) }
 {
     let height = match known_height(calc, page, b) {
@@ -141,8 +145,8 @@ pub fn block_box<S: Steady>(
     end: &Context<S::Num>,
 ) -> Placed<S::Num>
     ensures { Lays S.run calc.old calc.new (placed_at S.at result)
-        (λ e. block_of page.now.tree.now e.world b (frame_at S.at shape.now e) (context_at S.at end.now e))
-        (λ e. IsHeightFit page.now.tree.now e.world b
+        (λ e. block_of page.now.tree.now e.world b (frame_at S.at shape.now e)
+        (context_at S.at end.now e)) (λ e. IsHeightFit page.now.tree.now e.world b
         × (IsFrameLow (frame_at S.at shape.now e) × IsContextLow (context_at S.at end.now e))) }
 {
     let height = match known_height(calc, page, b) {

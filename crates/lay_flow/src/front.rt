@@ -3,7 +3,7 @@ ghost use Rattle.std.specs.List.{AllByRecursion};
 ghost use Rattle.viz_base.specs.declared.limits.TheConstants.{MOST_LAID_CHARACTERS, MOST_PIXELS, MOST_SIZE};
 ghost use Rattle.viz_base.specs.Trees.{character_count};
 ghost use Rattle.viz_calc.specs.World.{Reading};
-ghost use Rattle.viz_calc.specs.State.{Grows, AreOpen, CauseButMem, is_told};
+ghost use Rattle.viz_calc.specs.State.{Grows, AreOpen, CauseButMem, is_told, WhereOpen};
 ghost use Rattle.viz_calc.specs.Renderings.{rendering_at};
 ghost use Rattle.layout_semantics.specs.Page.{page_rendering};
 ghost use Rattle.lay_length.specs.Limits.{IsSmallPage, IsWithinLimits};
@@ -25,8 +25,8 @@ pub fn render<C: Calc>(
     tree: &BoxTree,
 ) -> Result<Rendering<C::Num>, Halt>
     ensures grows { Grows (C.state calc.old) (C.state calc.new) }
-    ensures value { IfOk result (λ r. (e : Reading) → IsTrue ((C.state calc.new).is_open e)
-        → rendering_at C.at r e ≡ page_rendering tree.now e.world) }
+    ensures value { IfOk result (λ r. WhereOpen (C.state calc.new).is_open
+        (λ e. rendering_at C.at r e ≡ page_rendering tree.now e.world)) }
     ensures kept { AreOpen (C.state calc.old).kept (C.state calc.new) }
     ensures cause { IfErr result (CauseButMem (C.state calc.old) (C.state calc.new)
         (IsWithinLimits tree.now (C.state calc.old).is_open)) }

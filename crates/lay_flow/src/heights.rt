@@ -36,7 +36,8 @@ fn height_of<S: Steady>(
     length: &Length,
 ) -> Option<S::Num>
     ensures { Lays S.run calc.old calc.new (option_at S.at result)
-        (λ e. height_in page.now.tree.now e.world (definite_of page.now.tree.now e.world b) length.now)
+        (λ e. height_in page.now.tree.now e.world
+        (definite_of page.now.tree.now e.world b) length.now)
         (λ e. OwnFits page.now.tree.now e.world b length.now) }
 {
     match length {
@@ -54,7 +55,8 @@ fn height_of<S: Steady>(
 
 /// The height that a box's own property gives, where that is definite.
 pub fn known_height<S: Steady>(calc: &mut S, page: &Page<'_, S::Num>, b: u32) -> Option<S::Num>
-    ensures { Lays S.run calc.old calc.new (option_at S.at result) (λ e. given_height page.now.tree.now e.world b)
+    ensures { Lays S.run calc.old calc.new (option_at S.at result)
+        (λ e. given_height page.now.tree.now e.world b)
         (λ e. IsHeightFit page.now.tree.now e.world b) }
 {
     height_of(calc, page, b, &own_height(page.tree, b))
@@ -101,7 +103,8 @@ pub fn replaced_height<S: Steady>(
 
 /// Where a child with no margin stands.
 pub fn next_edge<S: Steady>(calc: &mut S, standing: &Standing<S::Num>) -> S::Num
-    ensures { Lays S.run calc.old calc.new (S.at result) (λ e. edge_of (standing_at S.at standing.now e))
+    ensures { Lays S.run calc.old calc.new (S.at result)
+        (λ e. edge_of (standing_at S.at standing.now e))
         (λ e. IsStandingLow (standing_at S.at standing.now e)) }
 {
     match standing {
@@ -121,7 +124,8 @@ pub fn next_edge<S: Steady>(calc: &mut S, standing: &Standing<S::Num>) -> S::Num
 fn lowest<S: Steady>(calc: &mut S, top: &S::Num, floats: &[PlacedFloat<S::Num>]) -> S::Num
     ensures { Lays S.run calc.old calc.new (S.at result)
         (λ e. lowest_of (S.at top.now e) (floats_in S.at floats.now e))
-        (λ e. IsNear (S.at top.now e) × AllByRecursion (IsFloatIn reach) (floats_in S.at floats.now e)) }
+        (λ e. IsNear (S.at top.now e) × AllByRecursion (IsFloatIn reach)
+        (floats_in S.at floats.now e)) }
 {
     // At least 0: a context's height is never negative, where a block's that starts none may be (10.6.3, 10.6.7).
     let mut best = zero(calc);
@@ -136,7 +140,8 @@ fn lowest<S: Steady>(calc: &mut S, top: &S::Num, floats: &[PlacedFloat<S::Num>])
 #[tactic(auto, unfolding(crate::specs::steps::Flow::tall_of))]
 /// The auto height of a box that starts a context: down to its last child, line or float (CSS 2.1, 10.6.7).
 pub fn context_height<S: Steady>(calc: &mut S, top: &S::Num, end: &Context<S::Num>) -> S::Num
-    ensures { Lays S.run calc.old calc.new (S.at result) (λ e. tall_of (S.at top.now e) (context_at S.at end.now e))
+    ensures { Lays S.run calc.old calc.new (S.at result)
+        (λ e. tall_of (S.at top.now e) (context_at S.at end.now e))
         (λ e. IsNear (S.at top.now e) × IsContextLow (context_at S.at end.now e)) }
 {
     let best = lowest(calc, top, end.floats.placed.as_slice());
@@ -173,7 +178,8 @@ pub fn block_height<S: Steady>(
 
 /// The margins of its last child that a block's own bottom margin joins.
 pub fn joined_run<S: Steady>(calc: &mut S, joins: bool, end: &Standing<S::Num>) -> Run<S::Num>
-    ensures { Lays S.run calc.old calc.new (run_at S.at result) (λ e. joined_of joins (standing_at S.at end.now e))
+    ensures { Lays S.run calc.old calc.new (run_at S.at result)
+        (λ e. joined_of joins (standing_at S.at end.now e))
         (λ e. IsStandingLow (standing_at S.at end.now e)) }
 {
     match end {

@@ -1,5 +1,6 @@
 //! Lines in the flow (CSS 2.1, 9.4.2), with the floats and atomic boxes on them.
 ghost use Rattle.std.specs.Prelude.{◌≡◌, ◌<◌, ◌++◌, false, fold, length, replicate, slice_set, unwrap_or, Some, None, IfOk, IsTrue};
+ghost use Rattle.viz_calc.specs.State.{WhereOpen};
 ghost use Rattle.std.specs.List.{flat_map, AllByRecursion};
 ghost use Rattle.viz_base.specs.declared.styles.Style.{Style as StyleOf};
 ghost use Rattle.viz_calc.specs.World.{Reading};
@@ -131,7 +132,8 @@ fn fill<S: Steady>(
 )
     ensures { Lays S.run calc.old calc.new (table_at S.at table.new.items)
         (λ e. filled_table page.now.tree.now e.world (apart_at S.at page.now.apart.now e)
-        (table_at S.at table.old.items e) boxes.now) (λ e. AreApartLow (apart_at S.at page.now.apart.now e)) }
+        (table_at S.at table.old.items e) boxes.now)
+        (λ e. AreApartLow (apart_at S.at page.now.apart.now e)) }
 {
     for at in boxes {
         let inner = inner_of(calc, page, *at);
@@ -214,8 +216,10 @@ fn raised_by<S: Steady>(
     entries: &[Entry<S::Num>],
 ) -> Option<S::Num>
     ensures { Lays S.run calc.old calc.new (option_at S.at result)
-        (λ e. fold raised_of (option_at S.at least e) (flat_map line_tops (entries_at S.at entries.now e)))
-        (λ e. AreLevelsLow (option_at S.at least e) × AllByRecursion IsEntryLow (entries_at S.at entries.now e)) }
+        (λ e. fold raised_of (option_at S.at least e)
+        (flat_map line_tops (entries_at S.at entries.now e)))
+        (λ e. AreLevelsLow (option_at S.at least e)
+        × AllByRecursion IsEntryLow (entries_at S.at entries.now e)) }
 {
     let mut best = least;
     for entry in entries {
@@ -234,8 +238,9 @@ fn add_entry<S: Steady>(
 )
     ensures { LaysButMem S.run calc.old calc.new (boxes_at S.at out.new.items)
         (λ e. boxes_at S.at out.old.items e
-        ++ entry_of page.now.tree.now e.world (apart_at S.at page.now.apart.now e) (entry_at S.at entry e))
-        (λ e. AreApartLow (apart_at S.at page.now.apart.now e) × IsEntryLow (entry_at S.at entry e)) }
+        ++ entry_of page.now.tree.now e.world (apart_at S.at page.now.apart.now e)
+        (entry_at S.at entry e)) (λ e. AreApartLow (apart_at S.at page.now.apart.now e)
+        × IsEntryLow (entry_at S.at entry e)) }
 {
     match entry {
         Entry::Here(placed) => append(calc, out, placed),
@@ -286,13 +291,15 @@ fn lines_in<S: Steady>(
 ) -> Laid<S::Num>
     requires { b < length page.now.tree.now.boxes }
     ensures goes { Goes (S.run calc.old) (S.run calc.new) }
-    ensures value { (e : Reading) → IsTrue ((S.run calc.new).is_open e) → laid_at S.at result e
-        ≡ lines_of page.now.tree.now e.world (apart_at S.at page.now.apart.now e) b (band_at S.at cb.now e)
-        (S.at top.now e) (context_at S.at context.old e) }
+    ensures value { WhereOpen (S.run calc.new).is_open
+        (λ e. laid_at S.at result e ≡ lines_of page.now.tree.now e.world
+        (apart_at S.at page.now.apart.now e) b (band_at S.at cb.now e) (S.at top.now e)
+        (context_at S.at context.old e)) }
     ensures least { context.new.least ≡ context.old.least }
-    ensures cause { BlamesButMem (S.run calc.old) (S.run calc.new) ((e : Reading) → IsTrue ((S.run calc.old).is_open e)
-        → InLinesFit page.now.tree.now e.world (apart_at S.at page.now.apart.now e) b (band_at S.at cb.now e)
-        (S.at top.now e) (context_at S.at context.old e)) }
+    ensures cause { BlamesButMem (S.run calc.old) (S.run calc.new)
+        (WhereOpen (S.run calc.old).is_open
+        (λ e. InLinesFit page.now.tree.now e.world (apart_at S.at page.now.apart.now e) b
+        (band_at S.at cb.now e) (S.at top.now e) (context_at S.at context.old e))) }
 {
     let table = inner_table(alloc, calc, page, b);
     let container = Container {
@@ -321,16 +328,19 @@ pub fn in_lines<S: Steady>(
     requires within { b < length page.now.tree.now.boxes }
     requires agrees { Agree S.at (S.run calc.old).is_open context.old.floats }
     ensures goes { Goes (S.run calc.old) (S.run calc.new) }
-    ensures context { (e : Reading) → IsTrue ((S.run calc.new).is_open e) → context_at S.at context.new e
-        ≡ (lines_step page.now.tree.now e.world (apart_at S.at page.now.apart.now e) b (band_at S.at cb.now e)
-        (S.at top.now e) (context_at S.at context.old e)).context }
-    ensures boxes { (e : Reading) → IsTrue ((S.run calc.new).is_open e) → boxes_at S.at out.new.items e
-        ≡ boxes_at S.at out.old.items e ++ (lines_step page.now.tree.now e.world
-        (apart_at S.at page.now.apart.now e) b (band_at S.at cb.now e) (S.at top.now e)
-        (context_at S.at context.old e)).boxes }
-    ensures cause { BlamesButMem (S.run calc.old) (S.run calc.new) ((e : Reading) → IsTrue ((S.run calc.old).is_open e)
-        → InLinesFit page.now.tree.now e.world (apart_at S.at page.now.apart.now e) b (band_at S.at cb.now e)
-        (S.at top.now e) (context_at S.at context.old e)) }
+    ensures context { WhereOpen (S.run calc.new).is_open
+        (λ e. context_at S.at context.new e
+        ≡ (lines_step page.now.tree.now e.world (apart_at S.at page.now.apart.now e) b
+        (band_at S.at cb.now e) (S.at top.now e) (context_at S.at context.old e)).context) }
+    ensures boxes { WhereOpen (S.run calc.new).is_open
+        (λ e. boxes_at S.at out.new.items e
+        ≡ boxes_at S.at out.old.items e
+        ++ (lines_step page.now.tree.now e.world (apart_at S.at page.now.apart.now e) b
+        (band_at S.at cb.now e) (S.at top.now e) (context_at S.at context.old e)).boxes) }
+    ensures cause { BlamesButMem (S.run calc.old) (S.run calc.new)
+        (WhereOpen (S.run calc.old).is_open
+        (λ e. InLinesFit page.now.tree.now e.world (apart_at S.at page.now.apart.now e) b
+        (band_at S.at cb.now e) (S.at top.now e) (context_at S.at context.old e))) }
     ensures agrees { Agree S.at (S.run calc.new).is_open context.new.floats }
 {
     let ended = context.floats.ended;

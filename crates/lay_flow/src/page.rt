@@ -1,5 +1,6 @@
 //! The boxes of a page: each float and each atomic box is laid out once, from the last one on, and kept by its number.
 ghost use Rattle.std.specs.Prelude.{◌≡◌, ◌<◌, length, replicate, set, Some, None, IfOk, IfSome, IsTrue, filter};
+ghost use Rattle.viz_calc.specs.State.{WhereOpen};
 ghost use Rattle.std.specs.List.{AllByRecursion};
 ghost use Rattle.viz_calc.specs.World.{Reading};
 ghost use Rattle.viz_calc.specs.Run.{Goes, BlamesButMem};
@@ -85,9 +86,11 @@ fn add_box<S: Steady>(
     requires found { AreFound S.at (S.run calc.old) tree.now found.old.widths.items }
     ensures goes { Goes (S.run calc.old) (S.run calc.new) }
     ensures found { AreFound S.at (S.run calc.new) tree.now found.new.widths.items }
-    ensures value { (e : Reading) → IsTrue ((S.run calc.new).is_open e) → table_at S.at table.new.places.items e
-        ≡ with_box tree.now e.world (table_at S.at table.old.places.items e) k }
-    ensures cause { BlamesButMem (S.run calc.old) (S.run calc.new) (AllFit tree.now (S.run calc.old).is_open
+    ensures value { WhereOpen (S.run calc.new).is_open
+        (λ e. table_at S.at table.new.places.items e
+        ≡ with_box tree.now e.world (table_at S.at table.old.places.items e) k) }
+    ensures cause { BlamesButMem (S.run calc.old) (S.run calc.new)
+        (AllFit tree.now (S.run calc.old).is_open
         (λ e. BoxAddedFits tree.now e.world (table_at S.at table.old.places.items e) k)) }
 {
     // How wide the containing block is needs no layout: the tree tells it, level by level.
@@ -113,9 +116,11 @@ fn add_boxes<S: Steady>(
     requires found { AreFound S.at (S.run calc.old) tree.now found.old.widths.items }
     ensures goes { Goes (S.run calc.old) (S.run calc.new) }
     ensures found { AreFound S.at (S.run calc.new) tree.now found.new.widths.items }
-    ensures value { (e : Reading) → IsTrue ((S.run calc.new).is_open e) → table_at S.at table.new.places.items e
-        ≡ with_boxes tree.now e.world (table_at S.at table.old.places.items e) boxes.now }
-    ensures cause { BlamesButMem (S.run calc.old) (S.run calc.new) (AllFit tree.now (S.run calc.old).is_open
+    ensures value { WhereOpen (S.run calc.new).is_open
+        (λ e. table_at S.at table.new.places.items e
+        ≡ with_boxes tree.now e.world (table_at S.at table.old.places.items e) boxes.now) }
+    ensures cause { BlamesButMem (S.run calc.old) (S.run calc.new)
+        (AllFit tree.now (S.run calc.old).is_open
         (λ e. BoxesAddedFit tree.now e.world (table_at S.at table.old.places.items e) boxes.now)) }
 {
     for k in boxes {
@@ -137,9 +142,11 @@ fn add_container<S: Steady>(
     requires found { AreFound S.at (S.run calc.old) tree.now found.old.widths.items }
     ensures goes { Goes (S.run calc.old) (S.run calc.new) }
     ensures found { AreFound S.at (S.run calc.new) tree.now found.new.widths.items }
-    ensures value { (e : Reading) → IsTrue ((S.run calc.new).is_open e) → table_at S.at table.new.places.items e
-        ≡ with_container_of tree.now e.world (table_at S.at table.old.places.items e) b }
-    ensures cause { BlamesButMem (S.run calc.old) (S.run calc.new) (AllFit tree.now (S.run calc.old).is_open
+    ensures value { WhereOpen (S.run calc.new).is_open
+        (λ e. table_at S.at table.new.places.items e
+        ≡ with_container_of tree.now e.world (table_at S.at table.old.places.items e) b) }
+    ensures cause { BlamesButMem (S.run calc.old) (S.run calc.new)
+        (AllFit tree.now (S.run calc.old).is_open
         (λ e. ContainerFits tree.now e.world (table_at S.at table.old.places.items e) b)) }
 {
     // What is in an inline box stands among the items of the block container around it.
@@ -178,10 +185,11 @@ fn fill<S: Steady>(
     requires found { AreFound S.at (S.run calc.old) tree.now found.old.widths.items }
     ensures goes { Goes (S.run calc.old) (S.run calc.new) }
     ensures found { AreFound S.at (S.run calc.new) tree.now found.new.widths.items }
-    ensures value { (e : Reading) → IsTrue ((S.run calc.new).is_open e) → table_at S.at table.new.places.items e
-        ≡ table_to tree.now e.world (length tree.now.boxes) }
-    ensures cause { BlamesButMem (S.run calc.old) (S.run calc.new) (AllFit tree.now (S.run calc.old).is_open
-        (λ e. TableFits tree.now e.world)) }
+    ensures value { WhereOpen (S.run calc.new).is_open
+        (λ e. table_at S.at table.new.places.items e
+        ≡ table_to tree.now e.world (length tree.now.boxes)) }
+    ensures cause { BlamesButMem (S.run calc.old) (S.run calc.new)
+        (AllFit tree.now (S.run calc.old).is_open (λ e. TableFits tree.now e.world)) }
 {
     // From the last box on: all that is in a box stands behind it, so its entries are there already.
     for done in 0..count {
@@ -199,10 +207,11 @@ fn outside_flow<S: Steady>(
     requires { AreFound S.at (S.run calc.old) tree.now found.old.widths.items }
     ensures goes { Goes (S.run calc.old) (S.run calc.new) }
     ensures found { AreFound S.at (S.run calc.new) tree.now found.new.widths.items }
-    ensures value { (e : Reading) → IsTrue ((S.run calc.new).is_open e) → table_at S.at result.places.items e
-        ≡ table_to tree.now e.world (length tree.now.boxes) }
-    ensures cause { BlamesButMem (S.run calc.old) (S.run calc.new) (AllFit tree.now (S.run calc.old).is_open
-        (λ e. TableFits tree.now e.world)) }
+    ensures value { WhereOpen (S.run calc.new).is_open
+        (λ e. table_at S.at result.places.items e
+        ≡ table_to tree.now e.world (length tree.now.boxes)) }
+    ensures cause { BlamesButMem (S.run calc.old) (S.run calc.new)
+        (AllFit tree.now (S.run calc.old).is_open (λ e. TableFits tree.now e.world)) }
 {
     match table_of(alloc, tree) {
         Some((count, mut table)) => {
@@ -221,10 +230,10 @@ fn outside_flow<S: Steady>(
 /// The boxes of a page.
 fn boxes<S: Steady>(alloc: Global, calc: &mut S, tree: &BoxTree) -> Vec<Placed<S::Num>>
     ensures goes { Goes (S.run calc.old) (S.run calc.new) }
-    ensures value { (e : Reading) → IsTrue ((S.run calc.new).is_open e)
-        → boxes_at S.at result.items e ≡ page_boxes tree.now e.world }
-    ensures cause { BlamesButMem (S.run calc.old) (S.run calc.new) (AllFit tree.now (S.run calc.old).is_open
-        (λ e. PageComesFit tree.now e.world)) }
+    ensures value { WhereOpen (S.run calc.new).is_open
+        (λ e. boxes_at S.at result.items e ≡ page_boxes tree.now e.world) }
+    ensures cause { BlamesButMem (S.run calc.old) (S.run calc.new)
+        (AllFit tree.now (S.run calc.old).is_open (λ e. PageComesFit tree.now e.world)) }
 {
     if tree.boxes.is_empty() {
         return Vec::new(alloc);
@@ -243,8 +252,8 @@ fn boxes<S: Steady>(alloc: Global, calc: &mut S, tree: &BoxTree) -> Vec<Placed<S
 /// The rendering of a page at each reading that is open at the end.
 pub fn render<S: Steady>(alloc: Global, calc: &mut S, tree: &BoxTree) -> Rendering<S::Num>
     ensures goes { Goes (S.run calc.old) (S.run calc.new) }
-    ensures value { (e : Reading) → IsTrue ((S.run calc.new).is_open e)
-        → rendering_at S.at result e ≡ page_rendering tree.now e.world }
+    ensures value { WhereOpen (S.run calc.new).is_open
+        (λ e. rendering_at S.at result e ≡ page_rendering tree.now e.world) }
     ensures cause { BlamesButMem (S.run calc.old) (S.run calc.new)
         (IsWithinLimits tree.now (S.run calc.old).is_open) }
 {

@@ -1,5 +1,6 @@
 //! Where a box in flow stands, and what stands after it (CSS 2.1, 8.3.1, 9.5.2).
 ghost use Rattle.std.specs.Prelude.{◌≡◌, ◌<◌, ℤ, ◌-ℤ◌, false, length, IsTrue};
+ghost use Rattle.viz_calc.specs.State.{WhereOpen};
 ghost use Rattle.std.specs.Int.{int_max, int_min};
 ghost use Rattle.viz_calc.specs.World.{Reading};
 ghost use Rattle.viz_calc.specs.Run.{Goes, Blames, Lays, LaysButMem};
@@ -53,10 +54,12 @@ fn go<S: Steady>(
 ) -> Gone<S::Num>
     requires { b < length page.now.tree.now.boxes }
     ensures { LaysButMem S.run calc.old calc.new (found_at S.at result.going result.end)
-        (λ e. forward_of page.now.tree.now e.world (apart_at S.at page.now.apart.now e) (base_at S.at base.now e)
-        (passed_by past) (band_at S.at cb.now e) (context_at S.at context.now e) b (run_at S.at run e))
-        (λ e. ForwardFits page.now.tree.now e.world (apart_at S.at page.now.apart.now e) (band_at S.at cb.now e)
-        (context_at S.at context.now e) b (base_at S.at base.now e) (passed_by past) (run_at S.at run e)) }
+        (λ e. forward_of page.now.tree.now e.world (apart_at S.at page.now.apart.now e)
+        (base_at S.at base.now e) (passed_by past) (band_at S.at cb.now e)
+        (context_at S.at context.now e) b (run_at S.at run e))
+        (λ e. ForwardFits page.now.tree.now e.world (apart_at S.at page.now.apart.now e)
+        (band_at S.at cb.now e) (context_at S.at context.now e) b (base_at S.at base.now e)
+        (passed_by past) (run_at S.at run e)) }
 {
     let mut going = Going {
         run,
@@ -75,7 +78,8 @@ fn go<S: Steady>(
 
 /// The box that is cleared where a way ends.
 fn cleared_of<N>(end: End<N>) -> Option<Cleared<N>>
-    ensures { (at : N → Reading → ℤ) (e : Reading) → cleared_at at result e ≡ cleared_in (end_at at end e) }
+    ensures { (at : N → Reading → ℤ) (e : Reading)
+        → cleared_at at result e ≡ cleared_in (end_at at end e) }
 {
     match end {
         End::GoesOn | End::Solid => None,
@@ -118,10 +122,11 @@ fn reached_from<S: Steady>(
 ) -> Met<S::Num>
     requires { b < length page.now.tree.now.boxes }
     ensures { LaysButMem S.run calc.old calc.new (met_at S.at result)
-        (λ e. from_of page.now.tree.now e.world (apart_at S.at page.now.apart.now e) (band_at S.at cb.now e)
-        (context_at S.at context.now e) b (S.at y e) (cleared_at S.at cleared e) (run_at S.at own e))
-        (λ e. FromFits page.now.tree.now e.world (apart_at S.at page.now.apart.now e) (band_at S.at cb.now e)
-        (context_at S.at context.now e) b (cleared_at S.at cleared e)) }
+        (λ e. from_of page.now.tree.now e.world (apart_at S.at page.now.apart.now e)
+        (band_at S.at cb.now e) (context_at S.at context.now e) b (S.at y e)
+        (cleared_at S.at cleared e) (run_at S.at own e))
+        (λ e. FromFits page.now.tree.now e.world (apart_at S.at page.now.apart.now e)
+        (band_at S.at cb.now e) (context_at S.at context.now e) b (cleared_at S.at cleared e)) }
 {
     match cleared {
         None => Met {
@@ -173,10 +178,10 @@ pub fn reach<S: Steady>(
 ) -> Met<S::Num>
     requires { b < length page.now.tree.now.boxes }
     ensures { LaysButMem S.run calc.old calc.new (met_at S.at result)
-        (λ e. reached_of page.now.tree.now e.world (apart_at S.at page.now.apart.now e) (band_at S.at cb.now e)
-        (context_at S.at context.now e) b)
-        (λ e. ReachFits page.now.tree.now e.world (apart_at S.at page.now.apart.now e) (band_at S.at cb.now e)
-        (context_at S.at context.now e) b) }
+        (λ e. reached_of page.now.tree.now e.world (apart_at S.at page.now.apart.now e)
+        (band_at S.at cb.now e) (context_at S.at context.now e) b)
+        (λ e. ReachFits page.now.tree.now e.world (apart_at S.at page.now.apart.now e)
+        (band_at S.at cb.now e) (context_at S.at context.now e) b) }
 {
     match &context.standing {
         Standing::AtTop { y, cleared } => {
@@ -214,8 +219,8 @@ pub fn reach<S: Steady>(
 
 /// Where boxes stand below an edge after which no margin has come.
 pub fn below<S: Steady>(calc: &mut S, edge: &S::Num) -> Standing<S::Num>
-    ensures { Lays S.run calc.old calc.new (standing_at S.at result) (λ e. below_of (S.at edge.now e) no_run false)
-        (λ e. IsNear (S.at edge.now e)) }
+    ensures { Lays S.run calc.old calc.new (standing_at S.at result)
+        (λ e. below_of (S.at edge.now e) no_run false) (λ e. IsNear (S.at edge.now e)) }
 {
     let edge = calc.copy(edge);
     let run = empty(calc);
@@ -274,7 +279,8 @@ pub fn standing_in<S: Steady>(
 /// The greatest top so far, with one more.
 pub fn raised<S: Steady>(calc: &mut S, least: &Option<S::Num>, y: S::Num) -> Option<S::Num>
     ensures { Lays S.run calc.old calc.new (option_at S.at result)
-        (λ e. raised_of (option_at S.at least.now e) (S.at y e)) (λ e. AreLevelsLow (option_at S.at least.now e)) }
+        (λ e. raised_of (option_at S.at least.now e) (S.at y e))
+        (λ e. AreLevelsLow (option_at S.at least.now e)) }
 {
     match least {
         Some(least) => {
@@ -287,8 +293,8 @@ pub fn raised<S: Steady>(calc: &mut S, least: &Option<S::Num>, y: S::Num) -> Opt
 
 /// The greater one of two.
 fn greater_of<S: Steady>(calc: &mut S, y: S::Num, least: &S::Num) -> S::Num
-    ensures { Lays S.run calc.old calc.new (S.at result) (λ e. int_max (S.at y e) (S.at least.now e))
-        (λ e. IsLevelLow (S.at least.now e)) }
+    ensures { Lays S.run calc.old calc.new (S.at result)
+        (λ e. int_max (S.at y e) (S.at least.now e)) (λ e. IsLevelLow (S.at least.now e)) }
 {
     let least = calc.copy(least);
     greater(calc, y, least)
@@ -297,7 +303,8 @@ fn greater_of<S: Steady>(calc: &mut S, y: S::Num, least: &S::Num) -> S::Num
 /// The outer top of a box.
 fn outer_top<S: Steady>(calc: &mut S, shape: &Shape<S::Num>) -> S::Num
     ensures { Lays S.run calc.old calc.new (S.at result)
-        (λ e. int_min (S.at shape.now.corner.y e) (S.at shape.now.corner.y e -ℤ S.at shape.now.v.margin_top e))
+        (λ e. int_min (S.at shape.now.corner.y e)
+        (S.at shape.now.corner.y e -ℤ S.at shape.now.v.margin_top e))
         (λ e. IsFrameLow (frame_at S.at shape.now e)) }
 {
     let top = calc.copy(&shape.corner.y);
@@ -316,10 +323,13 @@ pub fn open<S: Steady>(
     ensures goes { Goes (S.run calc.old) (S.run calc.new) }
     ensures before { result ≡ context.old.standing }
     ensures floats { context.new.floats ≡ context.old.floats }
-    ensures value { (e : Reading) → IsTrue ((S.run calc.new).is_open e) → context_at S.at context.new e
-        ≡ opened (context_at S.at context.old e) (frame_at S.at shape.now e) (standing_at S.at standing e) }
-    ensures cause { Blames (S.run calc.old) (S.run calc.new) ((e : Reading) → IsTrue ((S.run calc.old).is_open e)
-        → AreLevelsLow (option_at S.at context.old.least e) × IsFrameLow (frame_at S.at shape.now e)) }
+    ensures value { WhereOpen (S.run calc.new).is_open
+        (λ e. context_at S.at context.new e
+        ≡ opened (context_at S.at context.old e) (frame_at S.at shape.now e)
+        (standing_at S.at standing e)) }
+    ensures cause { Blames (S.run calc.old) (S.run calc.new) (WhereOpen (S.run calc.old).is_open
+        (λ e. AreLevelsLow (option_at S.at context.old.least e)
+        × IsFrameLow (frame_at S.at shape.now e))) }
 {
     let top = outer_top(calc, shape);
     context.least = raised(calc, &context.least, top);
@@ -328,7 +338,8 @@ pub fn open<S: Steady>(
 
 /// Whether so far only margins that adjoin the box's own top margin have come.
 pub fn is_at_top<N>(standing: &Standing<N>) -> bool
-    ensures { (at : N → Reading → ℤ) (e : Reading) → result ≡ at_top (standing_at at standing.now e) }
+    ensures { (at : N → Reading → ℤ) (e : Reading)
+        → result ≡ at_top (standing_at at standing.now e) }
 {
     matches!(standing, Standing::AtTop { .. })
 }
@@ -345,8 +356,8 @@ pub fn standing_after<S: Steady>(
     laid: Laid<S::Num>,
 ) -> Standing<S::Num>
     ensures { Lays S.run calc.old calc.new (standing_at S.at result)
-        (λ e. after_of tree.now e.world (band_at S.at cb.now e) (standing_at S.at before e) b (met_at S.at met e)
-        (ending_at S.at laid e))
+        (λ e. after_of tree.now e.world (band_at S.at cb.now e) (standing_at S.at before e) b
+        (met_at S.at met e) (ending_at S.at laid e))
         (λ e. IsBandLow (band_at S.at cb.now e)
         × (VerticalsFit tree.now e.world b (across_of (band_at S.at cb.now e))
         × (IsLevelLow (S.at met.reached.top e) × IsRunLow (run_at S.at met.own e)))) }

@@ -1,5 +1,6 @@
 //! The walk over the boxes of a block formatting context (CSS 2.1, 9.4.1).
 ghost use Rattle.std.specs.Prelude.{◌≡◌, ◌<◌, ◌++◌, ℕ, ℤ, Bool, None, length, slice_index_or, IsTrue};
+ghost use Rattle.viz_calc.specs.State.{WhereOpen};
 ghost use Rattle.std.specs.Option.{option_or};
 ghost use Rattle.viz_calc.specs.World.{Reading};
 ghost use Rattle.viz_calc.specs.Run.{Goes, Blames, BlamesButMem, Lays};
@@ -40,10 +41,10 @@ use viz_calc::Steady;
 /// A context where nothing stands yet.
 pub fn fresh<S: Steady>(alloc: Global, calc: &mut S, top: &S::Num) -> Context<S::Num>
     ensures goes { Goes (S.run calc.old) (S.run calc.new) }
-    ensures value { (e : Reading) → IsTrue ((S.run calc.new).is_open e)
-        → context_at S.at result e ≡ fresh_of (S.at top.now e) }
-    ensures cause { Blames (S.run calc.old) (S.run calc.new) ((e : Reading) → IsTrue ((S.run calc.old).is_open e)
-        → IsNear (S.at top.now e)) }
+    ensures value { WhereOpen (S.run calc.new).is_open
+        (λ e. context_at S.at result e ≡ fresh_of (S.at top.now e)) }
+    ensures cause { Blames (S.run calc.old) (S.run calc.new) (WhereOpen (S.run calc.old).is_open
+        (λ e. IsNear (S.at top.now e))) }
     ensures ended { result.floats.ended ≡ None }
 {
     let standing = below(calc, top);
@@ -68,16 +69,20 @@ fn float<S: Steady>(
 )
     requires { Agree S.at (S.run calc.old).is_open context.old.floats }
     ensures goes { Goes (S.run calc.old) (S.run calc.new) }
-    ensures context { (e : Reading) → IsTrue ((S.run calc.new).is_open e) → context_at S.at context.new e
-        ≡ (float_of page.now.tree.now e.world (apart_at S.at page.now.apart.now e) (band_at S.at cb.now e)
-        (S.at top.now e) (context_at S.at context.old e) k).context }
-    ensures boxes { (e : Reading) → IsTrue ((S.run calc.new).is_open e) → boxes_at S.at out.new.items e
-        ≡ boxes_at S.at out.old.items e ++ (float_of page.now.tree.now e.world (apart_at S.at page.now.apart.now e)
-        (band_at S.at cb.now e) (S.at top.now e) (context_at S.at context.old e) k).boxes }
-    ensures cause { BlamesButMem (S.run calc.old) (S.run calc.new) ((e : Reading) → IsTrue ((S.run calc.old).is_open e)
-        → IsContextLow (context_at S.at context.old e)
-        × (IsBandLow (band_at S.at cb.now e) × (IsNear (S.at top.now e)
-        × IsAloneLow (apart_at S.at page.now.apart.now e k)))) }
+    ensures context { WhereOpen (S.run calc.new).is_open
+        (λ e. context_at S.at context.new e
+        ≡ (float_of page.now.tree.now e.world (apart_at S.at page.now.apart.now e)
+        (band_at S.at cb.now e) (S.at top.now e) (context_at S.at context.old e) k).context) }
+    ensures boxes { WhereOpen (S.run calc.new).is_open
+        (λ e. boxes_at S.at out.new.items e
+        ≡ boxes_at S.at out.old.items e
+        ++ (float_of page.now.tree.now e.world (apart_at S.at page.now.apart.now e)
+        (band_at S.at cb.now e) (S.at top.now e) (context_at S.at context.old e) k).boxes) }
+    ensures cause { BlamesButMem (S.run calc.old) (S.run calc.new)
+        (WhereOpen (S.run calc.old).is_open
+        (λ e. IsContextLow (context_at S.at context.old e)
+        × (IsBandLow (band_at S.at cb.now e)
+        × (IsNear (S.at top.now e) × IsAloneLow (apart_at S.at page.now.apart.now e k))))) }
     ensures agrees { Agree S.at (S.run calc.new).is_open context.new.floats }
 {
     let size = size_of(calc, page.apart, k);
@@ -121,17 +126,22 @@ fn lay_replaced<S: Steady>(
     out: &mut Vec<Placed<S::Num>>,
 ) -> Laid<S::Num>
     ensures goes { Goes (S.run calc.old) (S.run calc.new) }
-    ensures value { (e : Reading) → IsTrue ((S.run calc.new).is_open e) → laid_with S.at result context.new e
+    ensures value { WhereOpen (S.run calc.new).is_open
+        (λ e. laid_with S.at result context.new e
         ≡ without_boxes (replaced_step page.now.tree.now e.world
         (apart_at S.at page.now.apart.now e) (S.at room.now e) (context_at S.at context.old e) b
-        (frame_at S.at shape.now e)) }
-    ensures boxes { (e : Reading) → IsTrue ((S.run calc.new).is_open e) → boxes_at S.at out.new.items e
-        ≡ boxes_at S.at out.old.items e ++ (replaced_step page.now.tree.now e.world
-        (apart_at S.at page.now.apart.now e) (S.at room.now e) (context_at S.at context.old e) b
-        (frame_at S.at shape.now e)).after.boxes }
-    ensures cause { BlamesButMem (S.run calc.old) (S.run calc.new) ((e : Reading) → IsTrue ((S.run calc.old).is_open e)
-        → IsReplacedFit page.now.tree.now e.world b (S.at room.now e)
-        × (AreLevelsLow (option_at S.at context.old.least e) × IsFrameLow (frame_at S.at shape.now e))) }
+        (frame_at S.at shape.now e))) }
+    ensures boxes { WhereOpen (S.run calc.new).is_open
+        (λ e. boxes_at S.at out.new.items e
+        ≡ boxes_at S.at out.old.items e
+        ++ (replaced_step page.now.tree.now e.world (apart_at S.at page.now.apart.now e)
+        (S.at room.now e) (context_at S.at context.old e) b
+        (frame_at S.at shape.now e)).after.boxes) }
+    ensures cause { BlamesButMem (S.run calc.old) (S.run calc.new)
+        (WhereOpen (S.run calc.old).is_open
+        (λ e. IsReplacedFit page.now.tree.now e.world b (S.at room.now e)
+        × (AreLevelsLow (option_at S.at context.old.least e)
+        × IsFrameLow (frame_at S.at shape.now e)))) }
     ensures floats { context.new.floats ≡ context.old.floats }
 {
     let top = content_top(calc, shape);
@@ -169,10 +179,13 @@ fn leave<S: Steady>(
     context: &mut Context<S::Num>,
 )
     ensures goes { Goes (S.run calc.old) (S.run calc.new) }
-    ensures value { (e : Reading) → IsTrue ((S.run calc.new).is_open e) → context_at S.at context.new e
-        ≡ left (context_at S.at context.old e) (frame_at S.at shape.now e) (context_at S.at own e) }
-    ensures cause { Blames (S.run calc.old) (S.run calc.new) ((e : Reading) → IsTrue ((S.run calc.old).is_open e)
-        → AreLevelsLow (option_at S.at context.old.least e) × IsFrameLow (frame_at S.at shape.now e)) }
+    ensures value { WhereOpen (S.run calc.new).is_open
+        (λ e. context_at S.at context.new e
+        ≡ left (context_at S.at context.old e) (frame_at S.at shape.now e)
+        (context_at S.at own e)) }
+    ensures cause { Blames (S.run calc.old) (S.run calc.new) (WhereOpen (S.run calc.old).is_open
+        (λ e. AreLevelsLow (option_at S.at context.old.least e)
+        × IsFrameLow (frame_at S.at shape.now e))) }
     ensures floats { context.new.floats ≡ context.old.floats }
 {
     let Context {
@@ -202,14 +215,16 @@ fn lay_context<S: Steady>(
 ) -> Laid<S::Num>
     requires { b < length page.now.tree.now.boxes }
     ensures goes { Goes (S.run calc.old) (S.run calc.new) }
-    ensures value { (e : Reading) → IsTrue ((S.run calc.new).is_open e) → laid_with S.at result context.new e
-        ≡ without_boxes (context_step page.now.tree.now e.world
-        (apart_at S.at page.now.apart.now e) (band_at S.at cb.now e) (context_at S.at context.old e) b
-        (frame_at S.at shape.now e)) }
-    ensures boxes { (e : Reading) → IsTrue ((S.run calc.new).is_open e) → boxes_at S.at out.new.items e
-        ≡ boxes_at S.at out.old.items e ++ (context_step page.now.tree.now e.world
-        (apart_at S.at page.now.apart.now e) (band_at S.at cb.now e) (context_at S.at context.old e) b
-        (frame_at S.at shape.now e)).after.boxes }
+    ensures value { WhereOpen (S.run calc.new).is_open
+        (λ e. laid_with S.at result context.new e
+        ≡ without_boxes (context_step page.now.tree.now e.world (apart_at S.at page.now.apart.now e)
+        (band_at S.at cb.now e) (context_at S.at context.old e) b (frame_at S.at shape.now e))) }
+    ensures boxes { WhereOpen (S.run calc.new).is_open
+        (λ e. boxes_at S.at out.new.items e
+        ≡ boxes_at S.at out.old.items e
+        ++ (context_step page.now.tree.now e.world (apart_at S.at page.now.apart.now e)
+        (band_at S.at cb.now e) (context_at S.at context.old e) b
+        (frame_at S.at shape.now e)).after.boxes) }
     ensures cause { BlamesButMem (S.run calc.old) (S.run calc.new)
         (AllFit page.now.tree.now (S.run calc.old).is_open (λ e. WalkFits page.now.tree.now e.world
         (apart_at S.at page.now.apart.now e) (when_starting (band_at S.at cb.now e)
@@ -251,18 +266,22 @@ fn lay_block<S: Steady>(
     requires within { b < length page.now.tree.now.boxes }
     requires agrees { Agree S.at (S.run calc.old).is_open context.old.floats }
     ensures goes { Goes (S.run calc.old) (S.run calc.new) }
-    ensures value { (e : Reading) → IsTrue ((S.run calc.new).is_open e) → laid_with S.at result context.new e
-        ≡ without_boxes (block_step page.now.tree.now e.world
-        (apart_at S.at page.now.apart.now e) (band_at S.at cb.now e) (context_at S.at context.old e) b
-        (cleared_at S.at cleared e) (frame_at S.at shape.now e)) }
-    ensures boxes { (e : Reading) → IsTrue ((S.run calc.new).is_open e) → boxes_at S.at out.new.items e
-        ≡ boxes_at S.at out.old.items e ++ (block_step page.now.tree.now e.world
-        (apart_at S.at page.now.apart.now e) (band_at S.at cb.now e) (context_at S.at context.old e) b
-        (cleared_at S.at cleared e) (frame_at S.at shape.now e)).after.boxes }
+    ensures value { WhereOpen (S.run calc.new).is_open
+        (λ e. laid_with S.at result context.new e
+        ≡ without_boxes (block_step page.now.tree.now e.world (apart_at S.at page.now.apart.now e)
+        (band_at S.at cb.now e) (context_at S.at context.old e) b (cleared_at S.at cleared e)
+        (frame_at S.at shape.now e))) }
+    ensures boxes { WhereOpen (S.run calc.new).is_open
+        (λ e. boxes_at S.at out.new.items e
+        ≡ boxes_at S.at out.old.items e
+        ++ (block_step page.now.tree.now e.world (apart_at S.at page.now.apart.now e)
+        (band_at S.at cb.now e) (context_at S.at context.old e) b (cleared_at S.at cleared e)
+        (frame_at S.at shape.now e)).after.boxes) }
     ensures cause { BlamesButMem (S.run calc.old) (S.run calc.new)
-        (AllFit page.now.tree.now (S.run calc.old).is_open (λ e. WalkFits page.now.tree.now e.world
-        (apart_at S.at page.now.apart.now e) (when_going_on (band_at S.at cb.now e)
-        (context_at S.at context.old e) b (cleared_at S.at cleared e) (frame_at S.at shape.now e)))) }
+        (AllFit page.now.tree.now (S.run calc.old).is_open
+        (λ e. WalkFits page.now.tree.now e.world (apart_at S.at page.now.apart.now e)
+        (when_going_on (band_at S.at cb.now e) (context_at S.at context.old e) b
+        (cleared_at S.at cleared e) (frame_at S.at shape.now e)))) }
     ensures agrees { Agree S.at (S.run calc.new).is_open context.new.floats }
 {
     let band = content_between(calc, &cb.left, &shape.x);
@@ -302,10 +321,11 @@ fn lay<S: Steady>(
     requires within { b < length page.now.tree.now.boxes }
     requires agrees { Agree S.at (S.run calc.old).is_open context.old.floats }
     ensures goes { Goes (S.run calc.old) (S.run calc.new) }
-    ensures value { (clears : Bool) (e : Reading) → IsTrue ((S.run calc.new).is_open e)
-        → laid_with S.at result context.new e ≡ without_boxes (laid_of page.now.tree.now e.world
-        (apart_at S.at page.now.apart.now e) (band_at S.at cb.now e) (context_at S.at context.old e) b
-        (record { top = S.at top.now e; clears = clears; cleared = cleared_at S.at cleared e })) }
+    ensures value { (clears : Bool) → WhereOpen (S.run calc.new).is_open
+        (λ e. laid_with S.at result context.new e
+        ≡ without_boxes (laid_of page.now.tree.now e.world (apart_at S.at page.now.apart.now e)
+        (band_at S.at cb.now e) (context_at S.at context.old e) b
+        (record { top = S.at top.now e; clears = clears; cleared = cleared_at S.at cleared e }))) }
     ensures boxes { (clears : Bool) (e : Reading) → IsTrue ((S.run calc.new).is_open e)
         → boxes_at S.at out.new.items e ≡ boxes_at S.at out.old.items e
         ++ (laid_of page.now.tree.now e.world (apart_at S.at page.now.apart.now e)
@@ -343,12 +363,15 @@ fn flow<S: Steady>(
     requires within { b < length page.now.tree.now.boxes }
     requires agrees { Agree S.at (S.run calc.old).is_open context.old.floats }
     ensures goes { Goes (S.run calc.old) (S.run calc.new) }
-    ensures context { (e : Reading) → IsTrue ((S.run calc.new).is_open e) → context_at S.at context.new e
+    ensures context { WhereOpen (S.run calc.new).is_open
+        (λ e. context_at S.at context.new e
         ≡ (in_flow page.now.tree.now e.world (apart_at S.at page.now.apart.now e)
-        (band_at S.at cb.now e) (context_at S.at context.old e) b).context }
-    ensures boxes { (e : Reading) → IsTrue ((S.run calc.new).is_open e) → boxes_at S.at out.new.items e
-        ≡ boxes_at S.at out.old.items e ++ (in_flow page.now.tree.now e.world
-        (apart_at S.at page.now.apart.now e) (band_at S.at cb.now e) (context_at S.at context.old e) b).boxes }
+        (band_at S.at cb.now e) (context_at S.at context.old e) b).context) }
+    ensures boxes { WhereOpen (S.run calc.new).is_open
+        (λ e. boxes_at S.at out.new.items e
+        ≡ boxes_at S.at out.old.items e
+        ++ (in_flow page.now.tree.now e.world (apart_at S.at page.now.apart.now e)
+        (band_at S.at cb.now e) (context_at S.at context.old e) b).boxes) }
     ensures cause { BlamesButMem (S.run calc.old) (S.run calc.new)
         (AllFit page.now.tree.now (S.run calc.old).is_open (λ e. WalkFits page.now.tree.now e.world
         (apart_at S.at page.now.apart.now e) (before_flow (band_at S.at cb.now e)
@@ -389,13 +412,15 @@ fn child<S: Steady>(
     requires within { k < length page.now.tree.now.boxes }
     requires agrees { Agree S.at (S.run calc.old).is_open context.old.floats }
     ensures goes { Goes (S.run calc.old) (S.run calc.new) }
-    ensures context { (e : Reading) → IsTrue ((S.run calc.new).is_open e) → context_at S.at context.new e
+    ensures context { WhereOpen (S.run calc.new).is_open
+        (λ e. context_at S.at context.new e
         ≡ (child_of page.now.tree.now e.world (apart_at S.at page.now.apart.now e)
-        (band_at S.at cb.now e) (S.at top.now e) (context_at S.at context.old e) k).context }
-    ensures boxes { (e : Reading) → IsTrue ((S.run calc.new).is_open e) → boxes_at S.at out.new.items e
-        ≡ boxes_at S.at out.old.items e ++ (child_of page.now.tree.now e.world
-        (apart_at S.at page.now.apart.now e) (band_at S.at cb.now e) (S.at top.now e)
-        (context_at S.at context.old e) k).boxes }
+        (band_at S.at cb.now e) (S.at top.now e) (context_at S.at context.old e) k).context) }
+    ensures boxes { WhereOpen (S.run calc.new).is_open
+        (λ e. boxes_at S.at out.new.items e
+        ≡ boxes_at S.at out.old.items e
+        ++ (child_of page.now.tree.now e.world (apart_at S.at page.now.apart.now e)
+        (band_at S.at cb.now e) (S.at top.now e) (context_at S.at context.old e) k).boxes) }
     ensures cause { BlamesButMem (S.run calc.old) (S.run calc.new)
         (AllFit page.now.tree.now (S.run calc.old).is_open (λ e. WalkFits page.now.tree.now e.world
         (apart_at S.at page.now.apart.now e) (before_child (band_at S.at cb.now e) (S.at top.now e)
@@ -425,18 +450,23 @@ fn children<S: Steady>(
     requires within { b < length page.now.tree.now.boxes }
     requires agrees { Agree S.at (S.run calc.old).is_open context.old.floats }
     requires behind { (i : ℕ) → i < length boxes.now
-        → (b < slice_index_or boxes.now i 0) × (slice_index_or boxes.now i 0 < length page.now.tree.now.boxes) }
+        → (b < slice_index_or boxes.now i 0)
+        × (slice_index_or boxes.now i 0 < length page.now.tree.now.boxes) }
     ensures goes { Goes (S.run calc.old) (S.run calc.new) }
-    ensures context { (e : Reading) → IsTrue ((S.run calc.new).is_open e) → context_at S.at context.new e
+    ensures context { WhereOpen (S.run calc.new).is_open
+        (λ e. context_at S.at context.new e
         ≡ (children_of page.now.tree.now e.world (apart_at S.at page.now.apart.now e)
-        (band_at S.at cb.now e) (S.at top.now e) (context_at S.at context.old e) boxes.now).context }
-    ensures boxes { (e : Reading) → IsTrue ((S.run calc.new).is_open e) → boxes_at S.at out.new.items e
-        ≡ boxes_at S.at out.old.items e ++ (children_of page.now.tree.now e.world
-        (apart_at S.at page.now.apart.now e) (band_at S.at cb.now e) (S.at top.now e)
-        (context_at S.at context.old e) boxes.now).boxes }
+        (band_at S.at cb.now e) (S.at top.now e)
+        (context_at S.at context.old e) boxes.now).context) }
+    ensures boxes { WhereOpen (S.run calc.new).is_open
+        (λ e. boxes_at S.at out.new.items e
+        ≡ boxes_at S.at out.old.items e
+        ++ (children_of page.now.tree.now e.world (apart_at S.at page.now.apart.now e)
+        (band_at S.at cb.now e) (S.at top.now e) (context_at S.at context.old e) boxes.now).boxes) }
     ensures cause { BlamesButMem (S.run calc.old) (S.run calc.new)
-        (AllFit page.now.tree.now (S.run calc.old).is_open (λ e. WalkFits page.now.tree.now e.world
-        (apart_at S.at page.now.apart.now e) (before_children (band_at S.at cb.now e) (S.at top.now e)
+        (AllFit page.now.tree.now (S.run calc.old).is_open
+        (λ e. WalkFits page.now.tree.now e.world (apart_at S.at page.now.apart.now e)
+        (before_children (band_at S.at cb.now e) (S.at top.now e)
         (context_at S.at context.old e) boxes.now))) }
     ensures agrees { Agree S.at (S.run calc.new).is_open context.new.floats }
 {
@@ -460,13 +490,15 @@ pub fn content<S: Steady>(
     requires within { b < length page.now.tree.now.boxes }
     requires agrees { Agree S.at (S.run calc.old).is_open context.old.floats }
     ensures goes { Goes (S.run calc.old) (S.run calc.new) }
-    ensures context { (e : Reading) → IsTrue ((S.run calc.new).is_open e) → context_at S.at context.new e
+    ensures context { WhereOpen (S.run calc.new).is_open
+        (λ e. context_at S.at context.new e
         ≡ (content_of page.now.tree.now e.world (apart_at S.at page.now.apart.now e) b
-        (band_at S.at cb.now e) (S.at top.now e) (context_at S.at context.old e)).context }
-    ensures boxes { (e : Reading) → IsTrue ((S.run calc.new).is_open e) → boxes_at S.at out.new.items e
-        ≡ boxes_at S.at out.old.items e ++ (content_of page.now.tree.now e.world
-        (apart_at S.at page.now.apart.now e) b (band_at S.at cb.now e) (S.at top.now e)
-        (context_at S.at context.old e)).boxes }
+        (band_at S.at cb.now e) (S.at top.now e) (context_at S.at context.old e)).context) }
+    ensures boxes { WhereOpen (S.run calc.new).is_open
+        (λ e. boxes_at S.at out.new.items e
+        ≡ boxes_at S.at out.old.items e
+        ++ (content_of page.now.tree.now e.world (apart_at S.at page.now.apart.now e) b
+        (band_at S.at cb.now e) (S.at top.now e) (context_at S.at context.old e)).boxes) }
     ensures cause { BlamesButMem (S.run calc.old) (S.run calc.new)
         (AllFit page.now.tree.now (S.run calc.old).is_open (λ e. WalkFits page.now.tree.now e.world
         (apart_at S.at page.now.apart.now e) (before_content b (band_at S.at cb.now e)

@@ -58,7 +58,8 @@ fn is_wrapping_atomic(tree: &BoxTree, item: &Item) -> bool
 
 /// Whether a thing stands directly behind an atomic box that lets lines break there, or is a space behind one.
 fn is_behind_atomic(tree: &BoxTree, before: Option<Item>, first: &Item) -> bool
-    ensures { result ≡ behind_atomic tree.now (option_map item_of before.entry) (item_of first.now) }
+    ensures { result ≡ behind_atomic tree.now (option_map item_of before.entry)
+        (item_of first.now) }
 {
     match first {
         Item::Space(_) => match before {
@@ -71,7 +72,8 @@ fn is_behind_atomic(tree: &BoxTree, before: Option<Item>, first: &Item) -> bool
 
 /// Whether a line may break between two things that follow one another.
 fn may_break(tree: &BoxTree, before: Option<Item>, first: &Item, next: &Item) -> bool
-    ensures { result ≡ may_part_by tree.now (option_map item_of before.entry) (item_of first.now) (item_of next.now) }
+    ensures { result ≡ may_part_by tree.now (option_map item_of before.entry) (item_of first.now)
+        (item_of next.now) }
 {
     !is_space(next)
         && !is_forced(next)
@@ -88,8 +90,8 @@ fn may_part(
     first: &Item,
     next: &Item,
 ) -> bool
-    ensures { result ≡ parting_of tree.now parting (option_map item_of before.entry) (item_of first.now)
-        (item_of next.now) }
+    ensures { result ≡ parting_of tree.now parting (option_map item_of before.entry)
+        (item_of first.now) (item_of next.now) }
 {
     match parting {
         Parting::Lines => may_break(tree, before, first, next),
@@ -206,8 +208,9 @@ fn behind(
     thing: &Item,
     after: &[Item],
 ) -> Result<Option<usize>, AllocError>
-    ensures { IfOk result (λ n. n ≡ behind_in (parting_of tree.now parting) (option_map item_of before.entry)
-        (item_of thing.now) (find is_thing_of (items_of after.now)) (items_of after.now)) }
+    ensures { IfOk result (λ n. n ≡ behind_in (parting_of tree.now parting)
+        (option_map item_of before.entry) (item_of thing.now)
+        (find is_thing_of (items_of after.now)) (items_of after.now)) }
 {
     match next_thing(after) {
         Some(next) => {
@@ -230,8 +233,8 @@ fn place(
     thing: &Item,
     after: &[Item],
 ) -> Result<Option<usize>, AllocError>
-    ensures { IfOk result (λ n. n ≡ place_in (parting_of tree.now parting) (option_map item_of before.entry)
-        (item_of thing.now) (items_of after.now)) }
+    ensures { IfOk result (λ n. n ≡ place_in (parting_of tree.now parting)
+        (option_map item_of before.entry) (item_of thing.now) (items_of after.now)) }
 {
     match thing {
         Item::Forced(_) => Ok(Some(leading_ends(after))),
@@ -269,8 +272,8 @@ fn left_after(
     item: &Item,
     after: &[Item],
 ) -> Result<Option<usize>, AllocError>
-    ensures { IfOk result (λ n. n ≡ left_in (parting_of tree.now parting) (option_map item_of last.entry) left
-        (item_of item.now) (items_of after.now)) }
+    ensures { IfOk result (λ n. n ≡ left_in (parting_of tree.now parting)
+        (option_map item_of last.entry) left (item_of item.now) (items_of after.now)) }
 {
     if is_thing(item) {
         place(alloc, tree, parting, last, item, after)
@@ -281,7 +284,8 @@ fn left_after(
 
 /// The last thing, after one more item.
 fn last_after<'a>(last: Option<Item<'a>>, item: &Item<'a>) -> Option<Item<'a>>
-    ensures { option_map item_of result ≡ last_with (option_map item_of last.entry) (item_of item.now) }
+    ensures { option_map item_of result
+        ≡ last_with (option_map item_of last.entry) (item_of item.now) }
 {
     if is_thing(item) { Some(*item) } else { last }
 }

@@ -13,7 +13,8 @@ use viz_base::{BoxTree, Kind};
 
 /// Adds an item.
 fn add<'a>(item: Item<'a>, items: &mut Vec<Item<'a>>) -> Result<(), AllocError>
-    ensures { OnOk result (items_of items.new.items ≡ items_of items.old.items ++ item_of item.entry ∷ []) }
+    ensures { OnOk result (items_of items.new.items
+        ≡ items_of items.old.items ++ item_of item.entry ∷ []) }
 {
     items.push(item)?;
     Ok(())
@@ -21,7 +22,8 @@ fn add<'a>(item: Item<'a>, items: &mut Vec<Item<'a>>) -> Result<(), AllocError>
 
 /// Adds a word, where it has a letter.
 fn add_word<'a>(at: u32, word: &'a str, items: &mut Vec<Item<'a>>) -> Result<(), AllocError>
-    ensures { OnOk result (items_of items.new.items ≡ items_of items.old.items ++ word_items at (chars word.now)) }
+    ensures { OnOk result (items_of items.new.items
+        ≡ items_of items.old.items ++ word_items at (chars word.now)) }
 {
     if word.is_empty() {
         return Ok(());
@@ -31,7 +33,8 @@ fn add_word<'a>(at: u32, word: &'a str, items: &mut Vec<Item<'a>>) -> Result<(),
 
 /// The word up to the first space, and what follows that space.
 fn cut_word(text: &str) -> Option<(&str, &str)>
-    ensures { MatchOption result ((at : ℕ) → text_items at (chars text.now) ≡ word_items at (chars text.now))
+    ensures { MatchOption result ((at : ℕ)
+        → text_items at (chars text.now) ≡ word_items at (chars text.now))
         (λ p. IsCut text.now p.0.now p.1.now) }
 {
     text.split_once(' ')
@@ -39,7 +42,8 @@ fn cut_word(text: &str) -> Option<(&str, &str)>
 
 /// Adds the words and spaces of a text.
 fn add_text<'a>(at: u32, text: &'a str, items: &mut Vec<Item<'a>>) -> Result<(), AllocError>
-    ensures { OnOk result (items_of items.new.items ≡ items_of items.old.items ++ text_items at (chars text.now)) }
+    ensures { OnOk result (items_of items.new.items
+        ≡ items_of items.old.items ++ text_items at (chars text.now)) }
 {
     let mut rest = text;
     while let Some((word, after)) = cut_word(rest) {
@@ -65,7 +69,8 @@ fn text_at(tree: &BoxTree, at: u32) -> &str
 /// Adds the items of a box in inline content.
 fn add_box<'a>(tree: &'a BoxTree, at: u32, items: &mut Vec<Item<'a>>) -> Result<(), AllocError>
     requires { at < length tree.now.boxes }
-    ensures { OnOk result (items_of items.new.items ≡ items_of items.old.items ++ own_items tree.now at) }
+    ensures { OnOk result (items_of items.new.items
+        ≡ items_of items.old.items ++ own_items tree.now at) }
 {
     if floats_at(tree, at) {
         return add(Item::Float(at), items);
@@ -86,7 +91,8 @@ fn add_box<'a>(tree: &'a BoxTree, at: u32, items: &mut Vec<Item<'a>>) -> Result<
 /// Adds the inline content of a box.
 fn add_content<'a>(tree: &'a BoxTree, at: u32, items: &mut Vec<Item<'a>>) -> Result<(), AllocError>
     requires { at < length tree.now.boxes }
-    ensures { OnOk result (items_of items.new.items ≡ items_of items.old.items ++ content_of tree.now at) }
+    ensures { OnOk result (items_of items.new.items
+        ≡ items_of items.old.items ++ content_of tree.now at) }
 {
     for kid in kids_at(tree, at) {
         add_box(tree, *kid, items)?;

@@ -4,7 +4,7 @@ ghost use Rattle.std.specs.Int.{int_max};
 ghost use Rattle.viz_calc.specs.World.{Reading};
 ghost use Rattle.viz_calc.specs.Renderings.{band_at};
 ghost use Rattle.viz_calc.specs.Run.{Stands, Goes, Blames, BlamesButMem, LaysButMem};
-ghost use Rattle.viz_calc.specs.State.{AllSmall};
+ghost use Rattle.viz_calc.specs.State.{AllSmall, WhereOpen};
 ghost use Rattle.layout_semantics.specs.Floats.{FloatBox};
 ghost use Rattle.layout_semantics.specs.LineHeights.{height_of_extent};
 ghost use Rattle.lay_float.specs.Readings.{boxes_at};
@@ -95,15 +95,17 @@ fn edges_of<S: Steady>(
     ensures goes { Goes (S.run calc.old) (S.run calc.new) }
     ensures bottom { Stands (S.run calc.new) (S.at result.bottom)
         (λ e. S.at slot.now.top e +ℤ height_of_extent (line_extent_at S.at extent.now e)) }
-    ensures room { (e : Reading) → IsTrue ((S.run calc.new).is_open e) → band_at S.at result.room e
-        ≡ room_in (context_at S.at container.now e) (boxes_at S.at floats.now e) (S.at slot.now.top e)
-        (S.at slot.now.tall e) }
-    ensures least { Stands (S.run calc.new) (S.at result.least) (λ e. int_max (S.at least e) (S.at slot.now.top e)) }
-    ensures cause { Blames (S.run calc.old) (S.run calc.new) ((e : Reading) → IsTrue ((S.run calc.old).is_open e)
-        → AllSmall (height_of_extent (line_extent_at S.at extent.now e)
-        ∷ (S.at slot.now.top e +ℤ height_of_extent (line_extent_at S.at extent.now e)) ∷ S.at slot.now.top e ∷ [])
-        × RoomFits (context_at S.at container.now e) (boxes_at S.at floats.now e) (S.at slot.now.top e)
-        (S.at slot.now.tall e)) }
+    ensures room { WhereOpen (S.run calc.new).is_open
+        (λ e. band_at S.at result.room e
+        ≡ room_in (context_at S.at container.now e) (boxes_at S.at floats.now e)
+        (S.at slot.now.top e) (S.at slot.now.tall e)) }
+    ensures least { Stands (S.run calc.new) (S.at result.least)
+        (λ e. int_max (S.at least e) (S.at slot.now.top e)) }
+    ensures cause { Blames (S.run calc.old) (S.run calc.new) (WhereOpen (S.run calc.old).is_open
+        (λ e. AllSmall (height_of_extent (line_extent_at S.at extent.now e)
+        ∷ (S.at slot.now.top e +ℤ height_of_extent (line_extent_at S.at extent.now e))
+        ∷ S.at slot.now.top e ∷ []) × RoomFits (context_at S.at container.now e)
+        (boxes_at S.at floats.now e) (S.at slot.now.top e) (S.at slot.now.tall e))) }
 {
     let whole = height(calc, extent);
     let bottom = calc.add(&slot.top, &whole);
@@ -129,9 +131,9 @@ fn add_box<S: Steady>(
 )
     ensures { LaysButMem S.run calc.old calc.new (entries_at S.at entries.new)
         (λ e. entries_at S.at entries.old e
-        ++ box_in (context_at S.at container.now e) (band_at S.at room.now e) (S.at top.now e) (S.at bottom.now e)
-        ∷ [])
-        (λ e. AllSmall (S.at room.now.left e ∷ S.at top.now e ∷ S.at room.now.right e ∷ S.at bottom.now e ∷ [])) }
+        ++ box_in (context_at S.at container.now e) (band_at S.at room.now e) (S.at top.now e)
+        (S.at bottom.now e) ∷ []) (λ e. AllSmall
+        (S.at room.now.left e ∷ S.at top.now e ∷ S.at room.now.right e ∷ S.at bottom.now e ∷ [])) }
 {
     let entry = line_box(calc, container, room, top, bottom);
     add_entry(calc, entries, entry);
@@ -152,9 +154,9 @@ fn content_of<S: Steady>(
         (λ e. left_in (context_at S.at container.now e) (band_at S.at room.now e) (S.at width e)) }
     ensures width { result.width ≡ width }
     ensures spots { result.spots.items ≡ spots.items }
-    ensures cause { Blames (S.run calc.old) (S.run calc.new) ((e : Reading) → IsTrue ((S.run calc.old).is_open e)
-        → OnLine (S.at room.now.left e ∷ S.at room.now.right e ∷ S.at width e ∷ [])
-        × AllSmall (S.at baseline.now e ∷ [])) }
+    ensures cause { Blames (S.run calc.old) (S.run calc.new) (WhereOpen (S.run calc.old).is_open
+        (λ e. OnLine (S.at room.now.left e ∷ S.at room.now.right e ∷ S.at width e ∷ [])
+        × AllSmall (S.at baseline.now e ∷ []))) }
 {
     let left = content_left(calc, container, room, &width);
     let baseline = calc.copy(baseline);
@@ -176,17 +178,23 @@ fn end_full<S: Steady>(
     entries: &mut List<Entry<S::Num>>,
 ) -> SoFar<S::Num>
     ensures goes { Goes (S.run calc.old) (S.run calc.new) }
-    ensures after { (e : Reading) → IsTrue ((S.run calc.new).is_open e) → (floats : Seq FloatBox)
-        → length floats ≡ begun.floats → so_far_at S.at result e
-        ≡ (full_line (context_at S.at container.now e) (begun_at S.at begun floats e) (slot_at S.at line.entry.slot e)
-        (load_at S.at line.entry.load e) (pieces_at S.at line.entry.pieces.now e)).after }
-    ensures added { (e : Reading) → IsTrue ((S.run calc.new).is_open e) → (floats : Seq FloatBox)
-        → length floats ≡ begun.floats → entries_at S.at entries.new e ≡ entries_at S.at entries.old e
-        ++ (full_line (context_at S.at container.now e) (begun_at S.at begun floats e) (slot_at S.at line.entry.slot e)
-        (load_at S.at line.entry.load e) (pieces_at S.at line.entry.pieces.now e)).entries }
-    ensures cause { BlamesButMem (S.run calc.old) (S.run calc.new) ((e : Reading) → IsTrue ((S.run calc.old).is_open e)
-        → EndFits (context_at S.at container.now e) (start_at S.at begun e) (slot_at S.at line.entry.slot e)
-        (load_at S.at line.entry.load e) (pieces_at S.at line.entry.pieces.now e)) }
+    ensures after { WhereOpen (S.run calc.new).is_open (λ e. (floats : Seq FloatBox)
+        → length floats ≡ begun.floats
+        → so_far_at S.at result e ≡ (full_line (context_at S.at container.now e)
+        (begun_at S.at begun floats e) (slot_at S.at line.entry.slot e)
+        (load_at S.at line.entry.load e) (pieces_at S.at line.entry.pieces.now e)).after) }
+    ensures added { WhereOpen (S.run calc.new).is_open (λ e. (floats : Seq FloatBox)
+        → length floats ≡ begun.floats
+        → entries_at S.at entries.new e
+        ≡ entries_at S.at entries.old e
+        ++ (full_line (context_at S.at container.now e) (begun_at S.at begun floats e)
+        (slot_at S.at line.entry.slot e) (load_at S.at line.entry.load e)
+        (pieces_at S.at line.entry.pieces.now e)).entries) }
+    ensures cause { BlamesButMem (S.run calc.old) (S.run calc.new)
+        (WhereOpen (S.run calc.old).is_open
+        (λ e. EndFits (context_at S.at container.now e) (start_at S.at begun e)
+        (slot_at S.at line.entry.slot e) (load_at S.at line.entry.load e)
+        (pieces_at S.at line.entry.pieces.now e))) }
 {
     let FullLine { slot, load, pieces } = line;
     let held = load.held;
@@ -253,17 +261,22 @@ fn end_empty<S: Steady>(
     entries: &mut List<Entry<S::Num>>,
 ) -> SoFar<S::Num>
     ensures goes { Goes (S.run calc.old) (S.run calc.new) }
-    ensures after { (e : Reading) → IsTrue ((S.run calc.new).is_open e) → (floats : Seq FloatBox)
-        → length floats ≡ begun.floats → so_far_at S.at result e
-        ≡ (empty_line (context_at S.at container.now e) (begun_at S.at begun floats e) (load_at S.at line.entry.load e)
-        (pieces_at S.at line.entry.pieces.now e)).after }
-    ensures added { (e : Reading) → IsTrue ((S.run calc.new).is_open e) → (floats : Seq FloatBox)
-        → length floats ≡ begun.floats → entries_at S.at entries.new e ≡ entries_at S.at entries.old e
-        ++ (empty_line (context_at S.at container.now e) (begun_at S.at begun floats e) (load_at S.at line.entry.load e)
-        (pieces_at S.at line.entry.pieces.now e)).entries }
-    ensures cause { BlamesButMem (S.run calc.old) (S.run calc.new) ((e : Reading) → IsTrue ((S.run calc.old).is_open e)
-        → EndFits (context_at S.at container.now e) (start_at S.at begun e) (slot_at S.at line.entry.slot e)
-        (load_at S.at line.entry.load e) (pieces_at S.at line.entry.pieces.now e)) }
+    ensures after { WhereOpen (S.run calc.new).is_open (λ e. (floats : Seq FloatBox)
+        → length floats ≡ begun.floats
+        → so_far_at S.at result e ≡ (empty_line (context_at S.at container.now e)
+        (begun_at S.at begun floats e) (load_at S.at line.entry.load e)
+        (pieces_at S.at line.entry.pieces.now e)).after) }
+    ensures added { WhereOpen (S.run calc.new).is_open (λ e. (floats : Seq FloatBox)
+        → length floats ≡ begun.floats
+        → entries_at S.at entries.new e
+        ≡ entries_at S.at entries.old e
+        ++ (empty_line (context_at S.at container.now e) (begun_at S.at begun floats e)
+        (load_at S.at line.entry.load e) (pieces_at S.at line.entry.pieces.now e)).entries) }
+    ensures cause { BlamesButMem (S.run calc.old) (S.run calc.new)
+        (WhereOpen (S.run calc.old).is_open
+        (λ e. EndFits (context_at S.at container.now e) (start_at S.at begun e)
+        (slot_at S.at line.entry.slot e) (load_at S.at line.entry.load e)
+        (pieces_at S.at line.entry.pieces.now e))) }
 {
     let load = line.load;
     let before = load.met;
@@ -304,18 +317,23 @@ pub fn end_line<S: Steady>(
     entries: &mut List<Entry<S::Num>>,
 ) -> SoFar<S::Num>
     ensures goes { Goes (S.run calc.old) (S.run calc.new) }
-    ensures after { (e : Reading) → IsTrue ((S.run calc.new).is_open e) → (floats : Seq FloatBox)
-        → length floats ≡ begun.floats → so_far_at S.at result e
-        ≡ (ended_line (context_at S.at container.now e) (begun_at S.at begun floats e) (slot_at S.at line.entry.slot e)
-        (load_at S.at line.entry.load e) (pieces_at S.at line.entry.pieces.now e)).after }
-    ensures added { (e : Reading) → IsTrue ((S.run calc.new).is_open e) → (floats : Seq FloatBox)
-        → length floats ≡ begun.floats → entries_at S.at entries.new e ≡ entries_at S.at entries.old e
+    ensures after { WhereOpen (S.run calc.new).is_open (λ e. (floats : Seq FloatBox)
+        → length floats ≡ begun.floats
+        → so_far_at S.at result e ≡ (ended_line (context_at S.at container.now e)
+        (begun_at S.at begun floats e) (slot_at S.at line.entry.slot e)
+        (load_at S.at line.entry.load e) (pieces_at S.at line.entry.pieces.now e)).after) }
+    ensures added { WhereOpen (S.run calc.new).is_open (λ e. (floats : Seq FloatBox)
+        → length floats ≡ begun.floats
+        → entries_at S.at entries.new e
+        ≡ entries_at S.at entries.old e
         ++ (ended_line (context_at S.at container.now e) (begun_at S.at begun floats e)
         (slot_at S.at line.entry.slot e) (load_at S.at line.entry.load e)
-        (pieces_at S.at line.entry.pieces.now e)).entries }
-    ensures cause { BlamesButMem (S.run calc.old) (S.run calc.new) ((e : Reading) → IsTrue ((S.run calc.old).is_open e)
-        → EndFits (context_at S.at container.now e) (start_at S.at begun e) (slot_at S.at line.entry.slot e)
-        (load_at S.at line.entry.load e) (pieces_at S.at line.entry.pieces.now e)) }
+        (pieces_at S.at line.entry.pieces.now e)).entries) }
+    ensures cause { BlamesButMem (S.run calc.old) (S.run calc.new)
+        (WhereOpen (S.run calc.old).is_open
+        (λ e. EndFits (context_at S.at container.now e) (start_at S.at begun e)
+        (slot_at S.at line.entry.slot e) (load_at S.at line.entry.load e)
+        (pieces_at S.at line.entry.pieces.now e))) }
 {
     if line.load.is_line {
         end_full(alloc, calc, container, begun, line, entries)

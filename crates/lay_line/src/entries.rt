@@ -69,8 +69,8 @@ fn add_text<S: Steady>(
         (before_at S.at here.now.before e) (place_at S.at here.now.place.now e)
         (places_at S.at here.now.after.now e))
         (λ e. BoxFits (context_at S.at container.now e) at
-        × (OnLine
-        (S.at line.now.baseline e ∷ S.at here.now.place.now.left e ∷ S.at here.now.place.now.right e ∷ [])
+        × (OnLine (S.at line.now.baseline e ∷ S.at here.now.place.now.left e
+        ∷ S.at here.now.place.now.right e ∷ [])
         × PlacesOnLine (places_at S.at here.now.after.now e))) }
 {
     if goes_on(at, here.before) {
@@ -150,8 +150,8 @@ fn add_start<S: Steady>(
         ++ from_in (context_at S.at container.now e) (set_line_at S.at line.now e) at true
         (S.at here.now.place.now.right e) (places_at S.at here.now.after.now e) ∷ [])
         (λ e. BoxFits (context_at S.at container.now e) at
-        × (OnLine (S.at line.now.baseline e ∷ S.at here.now.place.now.right e ∷ S.at line.now.right e ∷ [])
-        × PlacesOnLine (places_at S.at here.now.after.now e))) }
+        × (OnLine (S.at line.now.baseline e ∷ S.at here.now.place.now.right e
+        ∷ S.at line.now.right e ∷ []) × PlacesOnLine (places_at S.at here.now.after.now e))) }
 {
     let span = Span {
         starts: true,
@@ -173,8 +173,8 @@ fn add_atomic<S: Steady>(
 )
     ensures { LaysButMem S.run calc.old calc.new (entries_at S.at entries.new)
         (λ e. entries_at S.at entries.old e
-        ++ atomic_in (context_at S.at container.now e) (set_line_at S.at line.now e) at (S.at left.now e) ∷ [])
-        (λ e. BoxFits (context_at S.at container.now e) at
+        ++ atomic_in (context_at S.at container.now e) (set_line_at S.at line.now e) at
+        (S.at left.now e) ∷ []) (λ e. BoxFits (context_at S.at container.now e) at
         × OnLine (S.at line.now.baseline e ∷ S.at left.now e ∷ [])) }
 {
     let entry = atomic_entry(calc, container, line, at, left);

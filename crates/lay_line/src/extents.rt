@@ -32,7 +32,8 @@ pub fn with_extent<S: Steady>(
 
 /// From its top to its bottom.
 pub fn height<S: Steady>(calc: &mut S, extent: &LineExtent<S::Num>) -> S::Num
-    ensures { Lays S.run calc.old calc.new (S.at result) (λ e. height_of_extent (line_extent_at S.at extent.now e))
+    ensures { Lays S.run calc.old calc.new (S.at result)
+        (λ e. height_of_extent (line_extent_at S.at extent.now e))
         (λ e. AllSmall (height_of_extent (line_extent_at S.at extent.now e) ∷ [])) }
 {
     calc.add(&extent.above, &extent.below)

@@ -1,5 +1,6 @@
 //! Floats of a tree, each placed behind the earlier ones (CSS 2.1, 9.5).
 ghost use Rattle.std.specs.Prelude.{◌≡◌, ◌∷◌, IsTrue};
+ghost use Rattle.viz_calc.specs.State.{WhereOpen};
 ghost use Rattle.std.specs.Option.{option_to_list};
 ghost use Rattle.viz_calc.specs.World.{Reading};
 ghost use Rattle.viz_calc.specs.Run.{Goes, BlamesButMem};
@@ -29,15 +30,19 @@ pub fn place_float<S: Steady>(
 ) -> Spot<S::Num>
     requires { Agree S.at (S.run calc.old).is_open floats.old }
     ensures goes { Goes (S.run calc.old) (S.run calc.new) }
-    ensures value { (e : Reading) → IsTrue ((S.run calc.new).is_open e) → spot_at S.at result e
-        ≡ float_spot (floating tree.now at (extent_at S.at size.now e) (band_at S.at cb.now e))
-        (floats_at S.at floats.old e) (lent_at S.at least.entry e) (S.at y.now e) }
-    ensures appended { (e : Reading) → IsTrue ((S.run calc.new).is_open e) → floats_at S.at floats.new e
+    ensures value { WhereOpen (S.run calc.new).is_open
+        (λ e. spot_at S.at result e ≡ float_spot
+        (floating tree.now at (extent_at S.at size.now e) (band_at S.at cb.now e))
+        (floats_at S.at floats.old e) (lent_at S.at least.entry e) (S.at y.now e)) }
+    ensures appended { WhereOpen (S.run calc.new).is_open
+        (λ e. floats_at S.at floats.new e
         ≡ with_float_at (floating tree.now at (extent_at S.at size.now e) (band_at S.at cb.now e))
-        (floats_at S.at floats.old e) (spot_at S.at result e) }
-    ensures cause { BlamesButMem (S.run calc.old) (S.run calc.new) ((e : Reading) → IsTrue ((S.run calc.old).is_open e)
-        → AreHalf (floats_at S.at floats.old e) (S.at size.now.width e ∷ S.at size.now.height e
-        ∷ S.at cb.now.left e ∷ S.at cb.now.right e ∷ S.at y.now e ∷ option_to_list (lent_at S.at least.entry e))) }
+        (floats_at S.at floats.old e) (spot_at S.at result e)) }
+    ensures cause { BlamesButMem (S.run calc.old) (S.run calc.new)
+        (WhereOpen (S.run calc.old).is_open
+        (λ e. AreHalf (floats_at S.at floats.old e)
+        (S.at size.now.width e ∷ S.at size.now.height e ∷ S.at cb.now.left e ∷ S.at cb.now.right e
+        ∷ S.at y.now e ∷ option_to_list (lent_at S.at least.entry e)))) }
     ensures agrees { Agree S.at (S.run calc.new).is_open floats.new }
 {
     let side = side_at(tree, at);

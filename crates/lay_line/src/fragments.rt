@@ -43,7 +43,8 @@ pub struct SetLine<'p, 'a, N> {
 
 /// Whether an item is the end of an inline box.
 fn is_end_of<N>(at: u32, place: &ItemPlace<N>) -> bool
-    ensures { (read : N → Reading → ℤ) (e : Reading) → result ≡ ends_box at (place_at read place.now e) }
+    ensures { (read : N → Reading → ℤ) (e : Reading)
+        → result ≡ ends_box at (place_at read place.now e) }
 {
     match &place.item {
         Item::Finish(other) => *other == at,
@@ -53,7 +54,8 @@ fn is_end_of<N>(at: u32, place: &ItemPlace<N>) -> bool
 
 /// Whether an item is of a text box.
 pub fn is_text_of<N>(at: u32, place: &ItemPlace<N>) -> bool
-    ensures { (read : N → Reading → ℤ) (e : Reading) → result ≡ is_text_at at (place_at read place.now e) }
+    ensures { (read : N → Reading → ℤ) (e : Reading)
+        → result ≡ is_text_at at (place_at read place.now e) }
 {
     match &place.item {
         Item::Word(other, _) | Item::Space(other) => *other == at,
@@ -63,7 +65,8 @@ pub fn is_text_of<N>(at: u32, place: &ItemPlace<N>) -> bool
 
 /// The end of an inline box.
 fn find_end<'p, 'a, N>(at: u32, places: &'p [ItemPlace<'a, N>]) -> Option<&'p ItemPlace<'a, N>>
-    ensures { (read : N → Reading → ℤ) (e : Reading) → option_map (λ p. place_at read p.now e) result
+    ensures { (read : N → Reading → ℤ) (e : Reading)
+        → option_map (λ p. place_at read p.now e) result
         ≡ find (ends_box at) (places_at read places.now e) }
 {
     for place in places {
@@ -159,7 +162,8 @@ pub fn plain_box<S: Steady>(
     content: Quad<S::Num>,
 ) -> Placed<S::Num>
     ensures { Lays S.run calc.old calc.new (placed_at S.at result)
-        (λ e. plain_of kind node (quad_at S.at content e)) (λ e. QuadFits (quad_at S.at content e)) }
+        (λ e. plain_of kind node (quad_at S.at content e))
+        (λ e. QuadFits (quad_at S.at content e)) }
 {
     let margin = copy_quad(calc, &content);
     let border = copy_quad(calc, &content);
@@ -185,8 +189,8 @@ pub fn text_fragment<S: Steady>(
     right: &S::Num,
 ) -> Entry<S::Num>
     ensures { Lays S.run calc.old calc.new (entry_at S.at result)
-        (λ e. text_in (context_at S.at container.now e) (set_line_at S.at line.now e) at (S.at left.now e)
-        (S.at right.now e))
+        (λ e. text_in (context_at S.at container.now e) (set_line_at S.at line.now e) at
+        (S.at left.now e) (S.at right.now e))
         (λ e. BoxFits (context_at S.at container.now e) at
         × OnLine (S.at line.now.baseline e ∷ S.at left.now e ∷ S.at right.now e ∷ [])) }
 {
@@ -224,8 +228,9 @@ fn edge_if<S: Steady>(
     room: &S::Num,
 ) -> S::Num
     ensures { Lays S.run calc.old calc.new (S.at result)
-        (λ e. cond there (used_length container.now.tree.now e.world length.now (S.at room.now e)) (pos 0))
-        (λ e. UsedFits container.now.tree.now e.world length.now (S.at room.now e) × AllSmall (pos 0 ∷ [])) }
+        (λ e. cond there (used_length container.now.tree.now e.world length.now (S.at room.now e))
+        (pos 0)) (λ e. UsedFits container.now.tree.now e.world length.now (S.at room.now e)
+        × AllSmall (pos 0 ∷ [])) }
 {
     if there {
         used(calc, container.tree, length, room)
@@ -273,8 +278,8 @@ fn ring<S: Steady>(
         (λ e. grown_by (quad_at S.at quad.now e)
         (edges_in (context_at S.at container.now e) starts ends sides.now))
         (λ e. EdgesFit (context_at S.at container.now e) sides.now
-        × QuadFits
-        (grown_by (quad_at S.at quad.now e) (edges_in (context_at S.at container.now e) starts ends sides.now))) }
+        × QuadFits (grown_by (quad_at S.at quad.now e)
+        (edges_in (context_at S.at container.now e) starts ends sides.now))) }
 {
     let edges = fragment_edges(calc, container, starts, ends, sides);
     grown(calc, quad, &edges)
@@ -379,8 +384,9 @@ pub fn inline_fragment<S: Steady>(
     span: &Span<'_, '_, '_, S::Num>,
 ) -> Entry<S::Num>
     ensures { Lays S.run calc.old calc.new (entry_at S.at result)
-        (λ e. from_in (context_at S.at container.now e) (set_line_at S.at line.now e) at span.now.starts
-        (S.at span.now.left.now e) (places_at S.at span.now.after.now e))
+        (λ e. from_in (context_at S.at container.now e)
+        (set_line_at S.at line.now e) at span.now.starts (S.at span.now.left.now e)
+        (places_at S.at span.now.after.now e))
         (λ e. BoxFits (context_at S.at container.now e) at
         × (OnLine (S.at line.now.baseline e ∷ S.at span.now.left.now e ∷ S.at line.now.right e ∷ [])
         × PlacesOnLine (places_at S.at span.now.after.now e))) }
@@ -401,8 +407,8 @@ pub fn atomic_entry<S: Steady>(
     left: &S::Num,
 ) -> Entry<S::Num>
     ensures { Lays S.run calc.old calc.new (entry_at S.at result)
-        (λ e. atomic_in (context_at S.at container.now e) (set_line_at S.at line.now e) at (S.at left.now e))
-        (λ e. BoxFits (context_at S.at container.now e) at
+        (λ e. atomic_in (context_at S.at container.now e) (set_line_at S.at line.now e) at
+        (S.at left.now e)) (λ e. BoxFits (context_at S.at container.now e) at
         × OnLine (S.at line.now.baseline e ∷ S.at left.now e ∷ [])) }
 {
     let extent = box_extent(calc, container, at);

@@ -32,7 +32,8 @@ pub struct Held<N> {
 
 /// Nothing.
 pub fn nothing<S: Steady>(calc: &mut S) -> Held<S::Num>
-    ensures { Lays S.run calc.old calc.new (held_at S.at result) (λ e. nothing_held) (λ e. AllSmall (pos 0 ∷ [])) }
+    ensures { Lays S.run calc.old calc.new (held_at S.at result) (λ e. nothing_held)
+        (λ e. AllSmall (pos 0 ∷ [])) }
 {
     let width = calc.lit(0);
     let spaces = calc.lit(0);

@@ -37,8 +37,10 @@ pub fn half<S: Steady>(calc: &mut S, whole: &S::Num) -> S::Num
 
 /// Half the leading, rounded down.
 fn half_leading<S: Steady>(calc: &mut S, tree: &BoxTree, node: u32) -> S::Num
-    ensures { Lays S.run calc.old calc.new (S.at result) (λ e. half_leading_of tree.now e.world node)
-        (λ e. LeadingFits tree.now e.world node × AllSmall (half_leading_of tree.now e.world node ∷ [])) }
+    ensures { Lays S.run calc.old calc.new (S.at result)
+        (λ e. half_leading_of tree.now e.world node)
+        (λ e. LeadingFits tree.now e.world node
+        × AllSmall (half_leading_of tree.now e.world node ∷ [])) }
 {
     let leading = leading(calc, tree, node);
     half(calc, &leading)

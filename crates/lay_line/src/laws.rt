@@ -33,7 +33,8 @@ pub fn pieces_of_one_pass_are_the_pieces()
 pub fn marks_make_the_parts()
     ensures stretches { (tree : BoxTree) (items : List Item)
         → marked_parts items (marks (may_part tree) None None items) ≡ stretches tree items }
-    ensures pieces { (items : List Item) → marked_parts items (marks never None None items) ≡ pieces items }
+    ensures pieces { (items : List Item)
+        → marked_parts items (marks never None None items) ≡ pieces items }
 {}
 
 /// What a line holds of measured items, pass by pass, is their width without the spaces at their ends.

@@ -89,8 +89,8 @@ pub fn line_box<S: Steady>(
 ) -> Entry<S::Num>
     ensures { Lays S.run calc.old calc.new (entry_at S.at result)
         (λ e. box_in (context_at S.at container.now e) (band_at S.at room.now e) (S.at top.now e)
-        (S.at bottom.now e))
-        (λ e. AllSmall (S.at room.now.left e ∷ S.at top.now e ∷ S.at room.now.right e ∷ S.at bottom.now e ∷ [])) }
+        (S.at bottom.now e)) (λ e. AllSmall
+        (S.at room.now.left e ∷ S.at top.now e ∷ S.at room.now.right e ∷ S.at bottom.now e ∷ [])) }
 {
     let left = calc.copy(&room.left);
     let top = calc.copy(top);
@@ -161,7 +161,8 @@ pub fn add_content<S: Steady>(
 )
     ensures { LaysButMem S.run calc.old calc.new (entries_at S.at entries.new)
         (λ e. entries_at S.at entries.old e
-        ++ entries_in (context_at S.at container.now e) (set_by S.at content pieces.now e) opened.now)
+        ++ entries_in (context_at S.at container.now e)
+        (set_by S.at content pieces.now e) opened.now)
         (λ e. BoxesFit (context_at S.at container.now e)
         × ContentFits (S.at content.baseline e) (S.at content.left e) (S.at content.width e)
         (spots_at S.at content.spots.items e) (pieces_at S.at pieces.now e)) }
@@ -189,9 +190,8 @@ pub fn place_waiting<S: Steady>(
 ) -> Met<S::Num>
     ensures { LaysButMem S.run calc.old calc.new (met_at S.at result)
         (λ e. late_in (context_at S.at container.now e) (S.at least.now e) (S.at bottom.now e)
-        (met_at S.at met e))
-        (λ e. PlacesFit (context_at S.at container.now e) (floats_at S.at met.floats e) (S.at least.now e)
-        (S.at bottom.now e) met.waiting.items) }
+        (met_at S.at met e)) (λ e. PlacesFit (context_at S.at container.now e)
+        (floats_at S.at met.floats e) (S.at least.now e) (S.at bottom.now e) met.waiting.items) }
 {
     let Met {
         spots,

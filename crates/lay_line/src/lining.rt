@@ -1,5 +1,6 @@
 //! The lines of a block container, one after another (CSS 2.1, 9.4.2, 9.5, 10.8, 16.2).
 ghost use Rattle.std.specs.Prelude.{◌≡◌, ◌<◌, ◌++◌, None, length, IsTrue, ⊤};
+ghost use Rattle.viz_calc.specs.State.{WhereOpen};
 ghost use Rattle.std.specs.List.{AllByRecursion};
 ghost use Rattle.viz_calc.specs.World.{Reading};
 ghost use Rattle.viz_calc.specs.Run.{Goes, BlamesButMem, LaysButMem};
@@ -59,17 +60,20 @@ fn next_line<'p, 'a, S: Steady>(
     entries: &mut List<Entry<S::Num>>,
 ) -> Next<'p, 'a, S::Num>
     requires parts { cut.pieces.now ≡ cut.first.now ++ cut.rest.pieces.now }
-    requires wide { (e : Reading) → IsTrue ((S.run calc.old).is_open e) → AreWide (pieces_at S.at cut.pieces.now e) }
+    requires wide { WhereOpen (S.run calc.old).is_open
+        (λ e. AreWide (pieces_at S.at cut.pieces.now e)) }
     ensures goes { Goes (S.run calc.old) (S.run calc.new) }
-    ensures after { (e : Reading) → IsTrue ((S.run calc.new).is_open e) → so_far_at S.at result.now e
-        ≡ (next_of S.at frame.now now cut.entry e).0.after }
-    ensures added { (e : Reading) → IsTrue ((S.run calc.new).is_open e) → entries_at S.at entries.new e
-        ≡ entries_at S.at entries.old e ++ (next_of S.at frame.now now cut.entry e).0.entries }
-    ensures rest { (e : Reading) → IsTrue ((S.run calc.new).is_open e) → parts_at S.at result.rest e
-        ≡ (next_of S.at frame.now now cut.entry e).1 }
-    ensures cause { BlamesButMem (S.run calc.old) (S.run calc.new) ((e : Reading) → IsTrue ((S.run calc.old).is_open e)
-        → RestFits (context_at S.at frame.now.container.now e) (S.at frame.now.tall e) (so_far_at S.at now e)
-        (pieces_at S.at cut.entry.pieces.now e)) }
+    ensures after { WhereOpen (S.run calc.new).is_open
+        (λ e. so_far_at S.at result.now e ≡ (next_of S.at frame.now now cut.entry e).0.after) }
+    ensures added { WhereOpen (S.run calc.new).is_open
+        (λ e. entries_at S.at entries.new e
+        ≡ entries_at S.at entries.old e ++ (next_of S.at frame.now now cut.entry e).0.entries) }
+    ensures rest { WhereOpen (S.run calc.new).is_open
+        (λ e. parts_at S.at result.rest e ≡ (next_of S.at frame.now now cut.entry e).1) }
+    ensures cause { BlamesButMem (S.run calc.old) (S.run calc.new)
+        (WhereOpen (S.run calc.old).is_open
+        (λ e. RestFits (context_at S.at frame.now.container.now e) (S.at frame.now.tall e)
+        (so_far_at S.at now e) (pieces_at S.at cut.entry.pieces.now e))) }
 {
     let first = cut.first;
     let floats = now.floats;
@@ -132,19 +136,23 @@ fn lay<S: Steady>(
     stretches: Stretches<'_, '_, S::Num>,
     entries: &mut List<Entry<S::Num>>,
 ) -> SoFar<S::Num>
-    requires { (e : Reading) → IsTrue ((S.run calc.old).is_open e)
-        → AreWide (pieces_at S.at stretches.pieces.now e) }
+    requires { WhereOpen (S.run calc.old).is_open
+        (λ e. AreWide (pieces_at S.at stretches.pieces.now e)) }
     ensures goes { Goes (S.run calc.old) (S.run calc.new) }
-    ensures after { (e : Reading) → IsTrue ((S.run calc.new).is_open e) → so_far_at S.at result e
-        ≡ (laying (length stretches.entry.pieces.now) (context_at S.at frame.now.container.now e)
-        (S.at frame.now.tall e) (so_far_at S.at start e) (parts_at S.at stretches.entry e)).after }
-    ensures added { (e : Reading) → IsTrue ((S.run calc.new).is_open e) → entries_at S.at entries.new e
-        ≡ entries_at S.at entries.old e ++ (laying (length stretches.entry.pieces.now)
-        (context_at S.at frame.now.container.now e) (S.at frame.now.tall e) (so_far_at S.at start e)
-        (parts_at S.at stretches.entry e)).entries }
-    ensures cause { BlamesButMem (S.run calc.old) (S.run calc.new) ((e : Reading) → IsTrue ((S.run calc.old).is_open e)
-        → RestFits (context_at S.at frame.now.container.now e) (S.at frame.now.tall e) (so_far_at S.at start e)
-        (pieces_at S.at stretches.entry.pieces.now e)) }
+    ensures after { WhereOpen (S.run calc.new).is_open
+        (λ e. so_far_at S.at result e ≡
+        (laying (length stretches.entry.pieces.now) (context_at S.at frame.now.container.now e)
+        (S.at frame.now.tall e) (so_far_at S.at start e) (parts_at S.at stretches.entry e)).after) }
+    ensures added { WhereOpen (S.run calc.new).is_open
+        (λ e. entries_at S.at entries.new e
+        ≡ entries_at S.at entries.old e
+        ++ (laying (length stretches.entry.pieces.now) (context_at S.at frame.now.container.now e)
+        (S.at frame.now.tall e) (so_far_at S.at start e)
+        (parts_at S.at stretches.entry e)).entries) }
+    ensures cause { BlamesButMem (S.run calc.old) (S.run calc.new)
+        (WhereOpen (S.run calc.old).is_open
+        (λ e. RestFits (context_at S.at frame.now.container.now e) (S.at frame.now.tall e)
+        (so_far_at S.at start e) (pieces_at S.at stretches.entry.pieces.now e))) }
 {
     let mut now = start;
     let count = stretches.pieces.len();
@@ -167,8 +175,8 @@ fn lay<S: Steady>(
 fn items_in<'t, S: Steady>(alloc: Global, calc: &mut S, tree: &'t BoxTree, at: u32) -> Vec<Item<'t>>
     requires { at < length tree.now.boxes }
     ensures goes { Goes (S.run calc.old) (S.run calc.new) }
-    ensures value { (e : Reading) → IsTrue ((S.run calc.new).is_open e)
-        → items_of result.items ≡ content_of tree.now at }
+    ensures value { WhereOpen (S.run calc.new).is_open
+        (λ e. items_of result.items ≡ content_of tree.now at) }
     ensures cause { BlamesButMem (S.run calc.old) (S.run calc.new) ⊤ }
     ensures short { AllByRecursion IsShort (items_of result.items) }
 {

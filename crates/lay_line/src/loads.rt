@@ -12,7 +12,7 @@ ghost use Rattle.lay_line.specs.Readings.{held_at, line_extent_at, load_at, load
 ghost use Rattle.lay_line.specs.steps.Leaping.{AreWide};
 ghost use Rattle.lay_line.specs.steps.Loading.{ahead_by, extending, with_reach as reach_with, with_reach_of, reaching, reaching_boxes, tallest_by, opened_by, loaded, takes_more as takes_in, loading};
 ghost use Rattle.lay_line.specs.steps.Words.{makes, strut_in};
-ghost use Rattle.viz_calc.specs.State.{AllSmall};
+ghost use Rattle.viz_calc.specs.State.{AllSmall, WhereOpen};
 ghost use Rattle.layout_semantics.specs.Blocks.{node_of};
 ghost use Rattle.lay_float.specs.Limits.{IsHalf};
 ghost use Rattle.lay_float.specs.Readings.{floats_at};
@@ -84,8 +84,8 @@ fn extended<S: Steady>(
     pieces: &[Piece<S::Num>],
 ) -> LineExtent<S::Num>
     ensures { Lays S.run calc.old calc.new (line_extent_at S.at result)
-        (λ e. reaching (context_at S.at container.now e) (line_extent_at S.at start e) (bare_of pieces.now))
-        (λ e. BoxesReach (context_at S.at container.now e)) }
+        (λ e. reaching (context_at S.at container.now e) (line_extent_at S.at start e)
+        (bare_of pieces.now)) (λ e. BoxesReach (context_at S.at container.now e)) }
 {
     let mut extent = start;
     for piece in pieces {
@@ -102,7 +102,8 @@ pub fn extent_at_start<S: Steady>(
     opened: &[u32],
 ) -> LineExtent<S::Num>
     ensures { Lays S.run calc.old calc.new (line_extent_at S.at result)
-        (λ e. reaching_boxes (context_at S.at container.now e) (line_extent_at S.at start e) opened.now)
+        (λ e. reaching_boxes (context_at S.at container.now e)
+        (line_extent_at S.at start e) opened.now)
         (λ e. BoxesReach (context_at S.at container.now e)) }
 {
     let mut extent = start;
@@ -121,12 +122,11 @@ pub fn tallest<S: Steady>(
 ) -> S::Num
     ensures { Lays S.run calc.old calc.new (S.at result)
         (λ e. tallest_by (context_at S.at container.now e) (bare_of pieces.now))
-        (λ e. InlineFits container.now.tree.now e.world (node_of container.now.tree.now container.now.at)
+        (λ e. InlineFits container.now.tree.now e.world
+        (node_of container.now.tree.now container.now.at)
         × (BoxesReach (context_at S.at container.now e)
-        × AllSmall
-        (height_of_extent
-        (reaching (context_at S.at container.now e) (strut_in (context_at S.at container.now e))
-        (bare_of pieces.now)) ∷ pos 1 ∷ []))) }
+        × AllSmall (height_of_extent (reaching (context_at S.at container.now e)
+        (strut_in (context_at S.at container.now e)) (bare_of pieces.now)) ∷ pos 1 ∷ []))) }
 {
     let start = strut(calc, container);
     let extent = extended(calc, container, start, pieces);
@@ -283,11 +283,12 @@ pub fn with_stretch<S: Steady>(
     taken: Taken<'_, '_, S::Num>,
 ) -> Load<S::Num>
     ensures { LaysButMem S.run calc.old calc.new (load_at S.at result)
-        (λ e. loaded (context_at S.at container.now e) (slot_at S.at slot.now e) (load_at S.at load e)
-        (bare_of taken.entry.part.now) taken.entry.floats.now (held_at S.at taken.entry.held e))
+        (λ e. loaded (context_at S.at container.now e) (slot_at S.at slot.now e)
+        (load_at S.at load e) (bare_of taken.entry.part.now) taken.entry.floats.now
+        (held_at S.at taken.entry.held e))
         (λ e. (PlacesFit (context_at S.at container.now e) (floats_at S.at load.met.floats e)
-        (S.at slot.now.least e) (S.at slot.now.top e) taken.entry.floats.now × IsHalf (S.at slot.now.tall e))
-        × BoxesReach (context_at S.at container.now e)) }
+        (S.at slot.now.least e) (S.at slot.now.top e) taken.entry.floats.now
+        × IsHalf (S.at slot.now.tall e)) × BoxesReach (context_at S.at container.now e)) }
 {
     let mut met = load.met;
     meet_each(
@@ -335,8 +336,8 @@ fn takes_more<S: Steady>(
     held: &Held<S::Num>,
 ) -> bool
     ensures { Lays S.run calc.old calc.new (λ e. result)
-        (λ e. takes_in (context_at S.at container.now e) (slot_at S.at slot.now e) (load_at S.at load.now e)
-        (held_at S.at held.now e))
+        (λ e. takes_in (context_at S.at container.now e) (slot_at S.at slot.now e)
+        (load_at S.at load.now e) (held_at S.at held.now e))
         (λ e. RoomFits (context_at S.at container.now e) (floats_at S.at load.now.met.floats e)
         (S.at slot.now.top e) (S.at slot.now.tall e)) }
 {
@@ -369,13 +370,13 @@ pub(crate) fn fill<'p, 'a, S: Steady>(
     start: Load<S::Num>,
     stretches: Stretches<'p, 'a, S::Num>,
 ) -> Loaded<'p, 'a, S::Num>
-    requires { (e : Reading) → IsTrue ((S.run calc.old).is_open e)
-        → AreWide (pieces_at S.at stretches.pieces.now e) }
+    requires { WhereOpen (S.run calc.old).is_open
+        (λ e. AreWide (pieces_at S.at stretches.pieces.now e)) }
     ensures { LaysButMem S.run calc.old calc.new (loaded_at S.at result)
-        (λ e. loading (context_at S.at container.now e) (slot_at S.at slot.now e) (load_at S.at start e)
-        (parts_at S.at stretches.entry e))
-        (λ e. FillFits (context_at S.at container.now e) (slot_at S.at slot.now e) (load_at S.at start e)
-        (pieces_at S.at stretches.entry.pieces.now e)) }
+        (λ e. loading (context_at S.at container.now e) (slot_at S.at slot.now e)
+        (load_at S.at start e) (parts_at S.at stretches.entry e))
+        (λ e. FillFits (context_at S.at container.now e) (slot_at S.at slot.now e)
+        (load_at S.at start e) (pieces_at S.at stretches.entry.pieces.now e)) }
 {
     let mut load = start;
     let mut rest = stretches;

@@ -2,7 +2,7 @@
 ghost use Rattle.std.specs.Prelude.{◌≡◌, ◌++◌, ◌∷◌, [], IsTrue, IfOk, ⊤};
 ghost use Rattle.std.specs.Ordering.{int_eq};
 ghost use Rattle.viz_calc.specs.World.{Reading};
-ghost use Rattle.viz_calc.specs.State.{AllSmall};
+ghost use Rattle.viz_calc.specs.State.{AllSmall, WhereOpen};
 ghost use Rattle.viz_calc.specs.Run.{Goes, BlamesButMem, Lays, LaysButMem};
 ghost use Rattle.viz_calc.specs.Renderings.{spot_at};
 ghost use Rattle.layout_semantics.specs.InlineContent.{float_boxes};
@@ -84,13 +84,17 @@ fn place_of_line<S: Steady>(
     y: &S::Num,
 ) -> Spot<S::Num>
     ensures goes { Goes (S.run calc.old) (S.run calc.new) }
-    ensures value { (e : Reading) → IsTrue ((S.run calc.new).is_open e) → spot_at S.at result e
-        ≡ spot_in (context_at S.at container.now e) (floats_at S.at floats.old e) (S.at least.now e) (S.at y.now e) at }
-    ensures appended { (e : Reading) → IsTrue ((S.run calc.new).is_open e) → floats_at S.at floats.new e
-        ≡ floats_with (context_at S.at container.now e) (floats_at S.at floats.old e) at (spot_at S.at result e) }
-    ensures cause { BlamesButMem (S.run calc.old) (S.run calc.new) ((e : Reading) → IsTrue ((S.run calc.old).is_open e)
-        → PlacesFit (context_at S.at container.now e) (floats_at S.at floats.old e) (S.at least.now e) (S.at y.now e)
-        (at ∷ [])) }
+    ensures value { WhereOpen (S.run calc.new).is_open
+        (λ e. spot_at S.at result e ≡ spot_in (context_at S.at container.now e)
+        (floats_at S.at floats.old e) (S.at least.now e) (S.at y.now e) at) }
+    ensures appended { WhereOpen (S.run calc.new).is_open
+        (λ e. floats_at S.at floats.new e
+        ≡ floats_with (context_at S.at container.now e) (floats_at S.at floats.old e) at
+        (spot_at S.at result e)) }
+    ensures cause { BlamesButMem (S.run calc.old) (S.run calc.new)
+        (WhereOpen (S.run calc.old).is_open
+        (λ e. PlacesFit (context_at S.at container.now e) (floats_at S.at floats.old e)
+        (S.at least.now e) (S.at y.now e) (at ∷ []))) }
 {
     let size = float_size(calc, container, at);
     // A line may take floats back, so nothing is known of them.
@@ -124,8 +128,8 @@ fn add_spot<S: Steady>(
 
 /// A float more that waits.
 fn add_waiting<S: Steady>(calc: &mut S, waiting: &mut Vec<u32>, at: u32)
-    ensures { LaysButMem S.run calc.old calc.new (λ e. waiting.new.items) (λ e. waiting.old.items ++ at ∷ [])
-        (λ e. ⊤) }
+    ensures { LaysButMem S.run calc.old calc.new (λ e. waiting.new.items)
+        (λ e. waiting.old.items ++ at ∷ []) (λ e. ⊤) }
 {
     if waiting.push(at).is_err() {
         calc.stop();
@@ -144,9 +148,8 @@ fn place_next<S: Steady>(
 )
     ensures { LaysButMem S.run calc.old calc.new (met_at S.at met.new)
         (λ e. placed_next (context_at S.at container.now e) (S.at least.now e) (S.at y.now e)
-        (met_at S.at met.old e) at)
-        (λ e. PlacesFit (context_at S.at container.now e) (floats_at S.at met.old.floats e) (S.at least.now e)
-        (S.at y.now e) (at ∷ [])) }
+        (met_at S.at met.old e) at) (λ e. PlacesFit (context_at S.at container.now e)
+        (floats_at S.at met.old.floats e) (S.at least.now e) (S.at y.now e) (at ∷ [])) }
 {
     let spot = place_of_line(calc, container, &mut met.floats, at, least, y);
     add_spot(calc, &mut met.spots, at, spot);
@@ -164,8 +167,8 @@ pub fn place_each<S: Steady>(
     ensures { LaysButMem S.run calc.old calc.new (met_at S.at met.new)
         (λ e. placed_all (context_at S.at container.now e) (S.at least.now e) (S.at y.now e)
         (met_at S.at met.old e) boxes.now)
-        (λ e. PlacesFit (context_at S.at container.now e) (floats_at S.at met.old.floats e) (S.at least.now e)
-        (S.at y.now e) boxes.now) }
+        (λ e. PlacesFit (context_at S.at container.now e) (floats_at S.at met.old.floats e)
+        (S.at least.now e) (S.at y.now e) boxes.now) }
 {
     for at in boxes {
         place_next(calc, container, least, y, met, *at);
@@ -185,9 +188,8 @@ pub fn fits<S: Steady>(
     ensures { Lays S.run calc.old calc.new (λ e. result)
         (λ e. fits_in (S.at width.now e)
         (room_in (context_at S.at container.now e) (boxes_at S.at floats.now e) (S.at top.now e)
-        (S.at tall.now e)))
-        (λ e. RoomFits (context_at S.at container.now e) (boxes_at S.at floats.now e) (S.at top.now e)
-        (S.at tall.now e)) }
+        (S.at tall.now e))) (λ e. RoomFits (context_at S.at container.now e)
+        (boxes_at S.at floats.now e) (S.at top.now e) (S.at tall.now e)) }
 {
     let room = band(calc, floats, container.cb, top, tall);
     let across = band_width(calc, &room);
@@ -196,7 +198,8 @@ pub fn fits<S: Steady>(
 
 /// Whether two numbers are the same.
 fn same<S: Steady>(calc: &mut S, a: &S::Num, b: &S::Num) -> bool
-    ensures { Lays S.run calc.old calc.new (λ e. result) (λ e. int_eq (S.at a.now e) (S.at b.now e)) (λ e. ⊤) }
+    ensures { Lays S.run calc.old calc.new (λ e. result) (λ e. int_eq (S.at a.now e) (S.at b.now e))
+        (λ e. ⊤) }
 {
     // A calc has one comparison; equality is two of them.
     calc.le(a, b) && calc.le(b, a)
@@ -214,8 +217,8 @@ fn leaves_room<S: Steady>(
     ensures { Lays S.run calc.old calc.new (λ e. result)
         (λ e. leaves (context_at S.at container.now e) (slot_at S.at slot.now e) (S.at held.now e)
         (boxes_at S.at floats.now e) (S.at y.now e))
-        (λ e. RoomFits (context_at S.at container.now e) (boxes_at S.at floats.now e) (S.at slot.now.top e)
-        (S.at slot.now.tall e)) }
+        (λ e. RoomFits (context_at S.at container.now e) (boxes_at S.at floats.now e)
+        (S.at slot.now.top e) (S.at slot.now.tall e)) }
 {
     same(calc, y, &slot.top) && fits(calc, container, floats, &slot.top, &slot.tall, held)
 }
@@ -304,8 +307,8 @@ fn collect_floats<N>(alloc: Global, pieces: &[Piece<N>]) -> Result<Vec<u32>, All
 
 /// The floats of pieces, in order.
 pub fn floats_of<S: Steady>(alloc: Global, calc: &mut S, pieces: &[Piece<S::Num>]) -> Vec<u32>
-    ensures { LaysButMem S.run calc.old calc.new (λ e. result.items) (λ e. float_boxes (bare_of pieces.now))
-        (λ e. ⊤) }
+    ensures { LaysButMem S.run calc.old calc.new (λ e. result.items)
+        (λ e. float_boxes (bare_of pieces.now)) (λ e. ⊤) }
 {
     match collect_floats(alloc, pieces) {
         Ok(floats) => floats,

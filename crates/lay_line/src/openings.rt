@@ -61,10 +61,11 @@ pub fn meet_before<S: Steady>(
     first: &[Piece<S::Num>],
 ) -> Met<S::Num>
     ensures { LaysButMem S.run calc.old calc.new (met_at S.at result)
-        (λ e. met_before (context_at S.at container.now e) (begun_at S.at begun.now (floats_at S.at floats e) e)
-        (pieces_at S.at first.now e))
-        (λ e. PlacesFit (context_at S.at container.now e) (floats_at S.at floats e) (S.at begun.now.least e)
-        (S.at begun.now.y e) (float_boxes (bare (pieces_at S.at first.now e)))) }
+        (λ e. met_before (context_at S.at container.now e)
+        (begun_at S.at begun.now (floats_at S.at floats e) e) (pieces_at S.at first.now e))
+        (λ e. PlacesFit (context_at S.at container.now e) (floats_at S.at floats e)
+        (S.at begun.now.least e) (S.at begun.now.y e)
+        (float_boxes (bare (pieces_at S.at first.now e)))) }
 {
     let (before, _) = first.split_at(ahead(container.tree, first));
     let boxes = floats_of(alloc, calc, before);
@@ -94,8 +95,8 @@ pub fn first_load<S: Steady>(
 ) -> Load<S::Num>
     ensures { LaysButMem S.run calc.old calc.new (load_at S.at result)
         (λ e. first_load (context_at S.at container.now e) (slot_at S.at slot.now e)
-        (met_at S.at opening.entry.met e) opening.entry.opened.now (pieces_at S.at opening.entry.first.now e)
-        (held_at S.at opening.entry.held e))
+        (met_at S.at opening.entry.met e) opening.entry.opened.now
+        (pieces_at S.at opening.entry.first.now e) (held_at S.at opening.entry.held e))
         (λ e. FirstFits (context_at S.at container.now e) (slot_at S.at slot.now e)
         (met_at S.at opening.entry.met e) (pieces_at S.at opening.entry.first.now e)) }
 {

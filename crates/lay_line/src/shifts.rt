@@ -27,8 +27,10 @@ use viz_calc::Steady;
 
 /// A fifth of a node's font size, rounded down, below the baseline.
 fn lowered<S: Steady>(calc: &mut S, tree: &BoxTree, node: u32) -> S::Num
-    ensures { Lays S.run calc.old calc.new (S.at result) (λ e. neg_ℤ (floor_of (font_size tree.now e.world node) 5))
-        (λ e. AllSmall (part_way tree.now e.world node (fraction (pos 1) 5 (font_size tree.now e.world node)))
+    ensures { Lays S.run calc.old calc.new (S.at result)
+        (λ e. neg_ℤ (floor_of (font_size tree.now e.world node) 5))
+        (λ e. AllSmall (part_way tree.now e.world node
+        (fraction (pos 1) 5 (font_size tree.now e.world node)))
         × AllSmall (pos 0 ∷ neg_ℤ (floor_of (font_size tree.now e.world node) 5) ∷ [])) }
 {
     let part = size_part(calc, tree, node, 1, 5);
@@ -44,8 +46,8 @@ fn centred<S: Steady>(
     extent: &LineExtent<S::Num>,
 ) -> S::Num
     ensures { Lays S.run calc.old calc.new (S.at result)
-        (λ e. (floor_of (font_size tree.now e.world node) 4
-        +ℤ floor_of (height_of_extent (line_extent_at S.at extent.now e)) 2) -ℤ S.at extent.now.above e)
+        (λ e. (floor_of (font_size tree.now e.world node) 4 +ℤ floor_of
+        (height_of_extent (line_extent_at S.at extent.now e)) 2) -ℤ S.at extent.now.above e)
         (λ e. CentredFits tree.now e.world node (line_extent_at S.at extent.now e)) }
 {
     let part = size_part(calc, tree, node, 1, 4);
@@ -66,10 +68,10 @@ fn raise<S: Steady>(
     valign: &Valign,
 ) -> S::Num
     ensures { Lays S.run calc.old calc.new (S.at result)
-        (λ e. raise_in (context_at S.at container.now e) node parent (line_extent_at S.at extent.now e)
-        valign.now)
-        (λ e. RaiseFits (context_at S.at container.now e) node parent (line_extent_at S.at extent.now e)
-        valign.now) }
+        (λ e. raise_in (context_at S.at container.now e) node parent
+        (line_extent_at S.at extent.now e) valign.now)
+        (λ e. RaiseFits (context_at S.at container.now e) node parent
+        (line_extent_at S.at extent.now e) valign.now) }
 {
     match valign {
         Valign::Baseline => zero(calc),
@@ -92,8 +94,10 @@ fn shift_to<S: Steady>(
     extent: &LineExtent<S::Num>,
 ) -> S::Num
     ensures { Lays S.run calc.old calc.new (S.at result)
-        (λ e. shifted_to levels (context_at S.at container.now e) at (line_extent_at S.at extent.now e))
-        (λ e. ShiftFits_to levels (context_at S.at container.now e) at (line_extent_at S.at extent.now e)) }
+        (λ e. shifted_to levels (context_at S.at container.now e) at
+        (line_extent_at S.at extent.now e))
+        (λ e. ShiftFits_to levels (context_at S.at container.now e) at
+        (line_extent_at S.at extent.now e)) }
 {
     if levels == 0 {
         return zero(calc);
@@ -133,7 +137,8 @@ pub fn shift<S: Steady>(
 #[tactic(auto, unfolding(crate::specs::Contexts::context_at, crate::specs::steps::Words::inline_raised, crate::specs::Fits::InlineShiftFits))]
 /// The same of an inline box.
 pub fn inline_shift<S: Steady>(calc: &mut S, container: &Container<'_, S::Num>, at: u32) -> S::Num
-    ensures { Lays S.run calc.old calc.new (S.at result) (λ e. inline_raised (context_at S.at container.now e) at)
+    ensures { Lays S.run calc.old calc.new (S.at result)
+        (λ e. inline_raised (context_at S.at container.now e) at)
         (λ e. InlineShiftFits (context_at S.at container.now e) at) }
 {
     let extent = inline_extent(calc, container.tree, node_at(container.tree, at));
@@ -147,7 +152,8 @@ pub fn box_extent<S: Steady>(
     at: u32,
 ) -> LineExtent<S::Num>
     ensures { Lays S.run calc.old calc.new (line_extent_at S.at result)
-        (λ e. own_reach (context_at S.at container.now e) at) (λ e. OwnFits (context_at S.at container.now e) at) }
+        (λ e. own_reach (context_at S.at container.now e) at)
+        (λ e. OwnFits (context_at S.at container.now e) at) }
 {
     match inner_of(container, at) {
         Some(inner) => {
@@ -167,7 +173,8 @@ pub fn reach<S: Steady>(
     at: u32,
 ) -> LineExtent<S::Num>
     ensures { Lays S.run calc.old calc.new (line_extent_at S.at result)
-        (λ e. reach_in (context_at S.at container.now e) at) (λ e. ReachFits (context_at S.at container.now e) at) }
+        (λ e. reach_in (context_at S.at container.now e) at)
+        (λ e. ReachFits (context_at S.at container.now e) at) }
 {
     let extent = box_extent(calc, container, at);
     let up = shift(calc, container, at, &extent);
@@ -181,7 +188,8 @@ pub fn reach<S: Steady>(
 pub fn strut<S: Steady>(calc: &mut S, container: &Container<'_, S::Num>) -> LineExtent<S::Num>
     ensures { Lays S.run calc.old calc.new (line_extent_at S.at result)
         (λ e. strut_in (context_at S.at container.now e))
-        (λ e. InlineFits container.now.tree.now e.world (node_of container.now.tree.now container.now.at)) }
+        (λ e. InlineFits container.now.tree.now e.world
+        (node_of container.now.tree.now container.now.at)) }
 {
     inline_extent(calc, container.tree, node_at(container.tree, container.at))
 }

@@ -46,9 +46,10 @@ fn edges_width<S: Steady>(
     padding: &Length,
 ) -> S::Num
     ensures { Lays S.run calc.old calc.new (S.at result)
-        (λ e. used_edges (context_at S.at container.now e) (margin.now ∷ border.now ∷ padding.now ∷ []))
-        (λ e. SideFits container.now.tree.now e.world (width_of (band_at S.at container.now.cb.now e)) margin.now
-        border.now padding.now) }
+        (λ e. used_edges (context_at S.at container.now e)
+        (margin.now ∷ border.now ∷ padding.now ∷ []))
+        (λ e. SideFits container.now.tree.now e.world
+        (width_of (band_at S.at container.now.cb.now e)) margin.now border.now padding.now) }
 {
     let room = band_width(calc, container.cb);
     let none = zero(calc);

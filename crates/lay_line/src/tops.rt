@@ -31,8 +31,8 @@ pub struct Wanted<'w, 'a, N> {
 
 /// The lower of the best number so far and one more.
 fn lower<S: Steady>(calc: &mut S, best: Option<S::Num>, more: S::Num) -> S::Num
-    ensures { Lays S.run calc.old calc.new (S.at result) (λ e. lower_of (option_at S.at best e) (S.at more e))
-        (λ e. ⊤) }
+    ensures { Lays S.run calc.old calc.new (S.at result)
+        (λ e. lower_of (option_at S.at best e) (S.at more e)) (λ e. ⊤) }
 {
     match best {
         Some(best) => lesser(calc, more, best),
@@ -44,10 +44,11 @@ fn lower<S: Steady>(calc: &mut S, best: Option<S::Num>, more: S::Num) -> S::Num
 /// Whether the line may stand there: beside no float, or where its first stretch fits.
 fn stands_at<S: Steady>(calc: &mut S, wanted: &Wanted<'_, '_, S::Num>, top: &S::Num) -> bool
     ensures { Lays S.run calc.old calc.new (λ e. result)
-        (λ e. stands_in (context_at S.at wanted.now.container.now e) (boxes_at S.at wanted.now.floats.now e)
-        (S.at wanted.now.tall.now e) (S.at wanted.now.width.now e) (S.at top.now e))
-        (λ e. RoomFits (context_at S.at wanted.now.container.now e) (boxes_at S.at wanted.now.floats.now e)
-        (S.at top.now e) (S.at wanted.now.tall.now e)) }
+        (λ e. stands_in (context_at S.at wanted.now.container.now e)
+        (boxes_at S.at wanted.now.floats.now e) (S.at wanted.now.tall.now e)
+        (S.at wanted.now.width.now e) (S.at top.now e))
+        (λ e. RoomFits (context_at S.at wanted.now.container.now e)
+        (boxes_at S.at wanted.now.floats.now e) (S.at top.now e) (S.at wanted.now.tall.now e)) }
 {
     !meets_any(calc, wanted.floats, top, wanted.tall)
         || fits(
@@ -68,12 +69,12 @@ fn with_bottom<S: Steady>(
     f: &PlacedFloat<S::Num>,
 ) -> Option<S::Num>
     ensures { Lays S.run calc.old calc.new (option_at S.at result)
-        (λ e. with_float
-        (stands_in (context_at S.at wanted.now.container.now e) (boxes_at S.at wanted.now.floats.now e)
-        (S.at wanted.now.tall.now e) (S.at wanted.now.width.now e)) (S.at wanted.now.y.now e)
-        (option_at S.at best e) (box_at S.at f.now e))
-        (λ e. RoomFits (context_at S.at wanted.now.container.now e) (boxes_at S.at wanted.now.floats.now e)
-        (S.at f.now.outer.bottom e) (S.at wanted.now.tall.now e) × AllSmall (S.at f.now.outer.bottom e ∷ [])) }
+        (λ e. with_float (stands_in (context_at S.at wanted.now.container.now e)
+        (boxes_at S.at wanted.now.floats.now e) (S.at wanted.now.tall.now e)
+        (S.at wanted.now.width.now e)) (S.at wanted.now.y.now e) (option_at S.at best e)
+        (box_at S.at f.now e)) (λ e. RoomFits (context_at S.at wanted.now.container.now e)
+        (boxes_at S.at wanted.now.floats.now e) (S.at f.now.outer.bottom e)
+        (S.at wanted.now.tall.now e) × AllSmall (S.at f.now.outer.bottom e ∷ [])) }
 {
     if calc.le(&f.outer.bottom, wanted.y) {
         return best;
@@ -88,13 +89,13 @@ fn with_bottom<S: Steady>(
 /// The highest place below y, at the bottom of a float.
 fn highest_below<S: Steady>(calc: &mut S, wanted: &Wanted<'_, '_, S::Num>) -> Option<S::Num>
     ensures { Lays S.run calc.old calc.new (option_at S.at result)
-        (λ e. fold
-        (with_float
-        (stands_in (context_at S.at wanted.now.container.now e) (boxes_at S.at wanted.now.floats.now e)
-        (S.at wanted.now.tall.now e) (S.at wanted.now.width.now e)) (S.at wanted.now.y.now e)) None
+        (λ e. fold (with_float (stands_in (context_at S.at wanted.now.container.now e)
+        (boxes_at S.at wanted.now.floats.now e) (S.at wanted.now.tall.now e)
+        (S.at wanted.now.width.now e)) (S.at wanted.now.y.now e)) None
         (boxes_at S.at wanted.now.floats.now e))
-        (λ e. RoomFits (context_at S.at wanted.now.container.now e) (boxes_at S.at wanted.now.floats.now e)
-        (S.at wanted.now.y.now e) (S.at wanted.now.tall.now e)) }
+        (λ e. RoomFits (context_at S.at wanted.now.container.now e)
+        (boxes_at S.at wanted.now.floats.now e) (S.at wanted.now.y.now e)
+        (S.at wanted.now.tall.now e)) }
 {
     let mut best = None;
     for f in wanted.floats {
@@ -107,10 +108,12 @@ fn highest_below<S: Steady>(calc: &mut S, wanted: &Wanted<'_, '_, S::Num>) -> Op
 /// The highest place from y on where the line's first stretch fits, or no float is met.
 pub fn line_top<S: Steady>(calc: &mut S, wanted: &Wanted<'_, '_, S::Num>) -> S::Num
     ensures { Lays S.run calc.old calc.new (S.at result)
-        (λ e. top_in (context_at S.at wanted.now.container.now e) (boxes_at S.at wanted.now.floats.now e)
-        (S.at wanted.now.y.now e) (S.at wanted.now.tall.now e) (S.at wanted.now.width.now e))
-        (λ e. RoomFits (context_at S.at wanted.now.container.now e) (boxes_at S.at wanted.now.floats.now e)
-        (S.at wanted.now.y.now e) (S.at wanted.now.tall.now e)) }
+        (λ e. top_in (context_at S.at wanted.now.container.now e)
+        (boxes_at S.at wanted.now.floats.now e) (S.at wanted.now.y.now e)
+        (S.at wanted.now.tall.now e) (S.at wanted.now.width.now e))
+        (λ e. RoomFits (context_at S.at wanted.now.container.now e)
+        (boxes_at S.at wanted.now.floats.now e) (S.at wanted.now.y.now e)
+        (S.at wanted.now.tall.now e)) }
 {
     if stands_at(calc, wanted, wanted.y) {
         return calc.copy(wanted.y);

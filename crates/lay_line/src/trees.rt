@@ -16,7 +16,8 @@ use viz_base::{Align, BoxTree, Clear, Side, Valign};
 pub fn kids_at(tree: &BoxTree, at: u32) -> &[u32]
     ensures value { result.now ≡ kids_of tree.now.boxes at }
     ensures each { (i : ℕ) → i < length result.now
-        → (at < slice_index_or result.now i 0) × (slice_index_or result.now i 0 < length tree.now.boxes) }
+        → (at < slice_index_or result.now i 0)
+        × (slice_index_or result.now i 0 < length tree.now.boxes) }
 {
     lay_width::properties::kids_at(tree, at)
 }

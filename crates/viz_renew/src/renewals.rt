@@ -33,7 +33,8 @@ fn renewed(
     turns: u64,
 ) -> Result<Reply, Mem>
     requires { CanRenew bytes.now jobs.now certs.now }
-    ensures { IfOk result (λ r. IsRenewal bytes.now jobs.now certs.now turns r.answer r.output.items) }
+    ensures { IfOk result
+        (λ r. IsRenewal bytes.now jobs.now certs.now turns r.answer r.output.items) }
 {
     let stand = all_stand(alloc, jobs, certs)?;
     if stand {
@@ -73,9 +74,11 @@ pub fn reply_to_renew(alloc: Global, job: &[u8], cert: &[u8], turns: u64) -> Res
     // range,
     ensures proved { IfOk result (λ r. r.answer ≡ Answer.Done → IsTrueEverywhere job.now) }
     // and where it is said to be violated, it is false at the world of the range that is printed, with the boxes there.
-    ensures violated { IfOk result (λ r. r.answer ≡ Answer.Violated → IsFalseWherePrinted job.now r.output.items) }
+    ensures violated { IfOk result (λ r. r.answer ≡ Answer.Violated
+        → IsFalseWherePrinted job.now r.output.items) }
     // The answer and the output are those of the reply.
-    ensures outcome { IfOk result (λ r. IsReplyToRenew job.now cert.now turns r.answer r.output.items) }
+    ensures outcome { IfOk result
+        (λ r. IsReplyToRenew job.now cert.now turns r.answer r.output.items) }
 {
     parts_hold();
     reply_on_files(alloc, job, cert, turns)

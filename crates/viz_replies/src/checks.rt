@@ -16,7 +16,8 @@ pub const CERT_MOST: usize = 67_108_864;
 
 /// The reply about a certificate file of more than `CERT_MOST` bytes.
 pub fn long_certificate(alloc: Global) -> Result<Reply, Mem>
-    ensures { IfOk result (λ r. (r.answer ≡ Answer.CertRefused) × (r.output.items ≡ codes "rejected too-long\n")) }
+    ensures { IfOk result (λ r. (r.answer ≡ Answer.CertRefused)
+        × (r.output.items ≡ codes "rejected too-long\n")) }
 {
     line(alloc, Answer::CertRefused, b"rejected too-long\n")
 }

@@ -2,10 +2,10 @@ ghost use Rattle.std.specs.Prelude.{◌≡◌, IfOk};
 ghost use Rattle.viz_replies.specs.Jobs.{long_line};
 ghost use Rattle.viz_replies.specs.steps.Answers.{AreJobsRead, IsJobRead};
 
+use crate::part_laws::parts_tell;
 use crate::refusals::refusal;
 use crate::reply::{Answer, Reply, line};
 use page_build::{build_at, build_parts};
-use crate::part_laws::parts_tell;
 use std::alloc::Global;
 use viz_base::{Job, List, Mem};
 

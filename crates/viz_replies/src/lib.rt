@@ -46,13 +46,14 @@ use viz_base::Mem;
 pub fn reply_to(alloc: Global, job: &[u8], question: &Question) -> Result<Reply, Mem>
     // Where certificates are accepted, the assertion as it is written is true of the CSS 2.1 rendering at every world
     // of the range, the rendering being by the rules that are met there (Media Queries 3).
-    ensures accepted { IfOk result (λ r. (cert : _) → question.now ≡ Question.Check cert → r.answer ≡ Answer.Done
-        → IsTrueEverywhere job.now) }
+    ensures accepted { IfOk result (λ r. (cert : _) → question.now ≡ Question.Check cert
+        → r.answer ≡ Answer.Done → IsTrueEverywhere job.now) }
     // So it is where it is said to be proved,
-    ensures proved { IfOk result (λ r. (turns : _) → question.now ≡ Question.Prove turns → r.answer ≡ Answer.Done
-        → IsTrueEverywhere job.now) }
+    ensures proved { IfOk result (λ r. (turns : _) → question.now ≡ Question.Prove turns
+        → r.answer ≡ Answer.Done → IsTrueEverywhere job.now) }
     // and where it is said to be violated, it is false at the world of the range that is printed, with the boxes there.
-    ensures violated { IfOk result (λ r. r.answer ≡ Answer.Violated → IsFalseWherePrinted job.now r.output.items) }
+    ensures violated { IfOk result (λ r. r.answer ≡ Answer.Violated
+        → IsFalseWherePrinted job.now r.output.items) }
     // The answer and the output are those of the reply.
     ensures outcome { IfOk result (λ r. IsReply job.now question.now r.answer r.output.items) }
 {

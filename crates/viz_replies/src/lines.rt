@@ -95,7 +95,8 @@ pub fn numbered_line(
     words: &[u8],
     numbers: &[u64],
 ) -> Result<Reply, Mem>
-    ensures { IfOk result (λ r. (r.answer ≡ answer) × (r.output.items ≡ numbered words.now numbers.now)) }
+    ensures { IfOk result (λ r. (r.answer ≡ answer)
+        × (r.output.items ≡ numbered words.now numbers.now)) }
 {
     let mut output = Vec::new(alloc);
     push_line(&mut output, words, numbers)?;

@@ -115,7 +115,8 @@ fn push_places(out: &mut Vec<u8>, fault: &JobRefusal) -> Result<(), AllocError>
 /// The line of a refusal, part by part.
 fn push_parts(out: &mut Vec<u8>, fault: &JobRefusal) -> Result<(), AllocError>
     ensures { OnOk result ((fault.now ≢ JobRefusal.Mem)
-        × (out.new.items ≡ out.old.items ++ (refusal_words fault.now ++ (refusal_places fault.now ++ codes "\n")))) }
+        × (out.new.items ≡ out.old.items
+        ++ (refusal_words fault.now ++ (refusal_places fault.now ++ codes "\n")))) }
 {
     out.extend_from_slice(refusal_words(fault).as_bytes())?;
     push_places(out, fault)?;

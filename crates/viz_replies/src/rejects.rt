@@ -50,7 +50,8 @@ fn push_pair(out: &mut Vec<u8>, node: u32, number: u64) -> Result<(), AllocError
 
 /// A node, and two numbers of it.
 fn push_three(out: &mut Vec<u8>, node: u32, first: u32, second: u32) -> Result<(), AllocError>
-    ensures { OnOk result (out.new.items ≡ out.old.items ++ (spaced node ++ (spaced first ++ spaced second))) }
+    ensures { OnOk result (out.new.items
+        ≡ out.old.items ++ (spaced node ++ (spaced first ++ spaced second))) }
 {
     push_number(out, u64::from(node))?;
     push_pair(out, first, u64::from(second))
@@ -73,7 +74,8 @@ fn push_differing(
 
 /// A node, and a world of its part.
 fn push_untrue(out: &mut Vec<u8>, form: u8, node: u32, world: World) -> Result<(), AllocError>
-    ensures { OnOk result (out.new.items ≡ out.old.items ++ (spaced node ++ spaced_world form world)) }
+    ensures { OnOk result (out.new.items
+        ≡ out.old.items ++ (spaced node ++ spaced_world form world)) }
 {
     push_number(out, u64::from(node))?;
     push_world(out, form, world)

@@ -9,12 +9,12 @@ use crate::checks::checked;
 use crate::jobs::{JobRead, JobsRead, read_job, read_jobs};
 use crate::laws::parts_hold;
 use crate::lines::push_part;
+use crate::printing::print;
 use crate::question::{Question, Screen};
 use crate::reply::{Answer, Reply};
 use crate::searches::{Found, search};
 use crate::violations::violation;
 use lay_flow::render_at;
-use crate::printing::print;
 use page_build::one_answer;
 use std::alloc::{AllocError, Global};
 use viz_base::{Job, List, Mem, Rect, World};
@@ -57,7 +57,8 @@ fn push_open(out: &mut Vec<u8>, form: u8, part: Rect) -> Result<(), AllocError>
 
 /// A part that is open yet of the range of a job of this form.
 fn left_open(alloc: Global, form: u8, part: Rect) -> Result<Reply, Mem>
-    ensures { IfOk result (λ r. (r.answer ≡ Answer.Undecided) × (r.output.items ≡ open_line form part)) }
+    ensures { IfOk result (λ r. (r.answer ≡ Answer.Undecided)
+        × (r.output.items ≡ open_line form part)) }
 {
     let mut output = Vec::new(alloc);
     push_open(&mut output, form, part)?;
@@ -122,7 +123,8 @@ fn proved(alloc: Global, bytes: &[u8], turns: u64) -> Result<Reply, Mem>
 
 /// What `check` replies.
 fn judged(alloc: Global, bytes: &[u8], cert: &[u8]) -> Result<Reply, Mem>
-    ensures { IfOk result (λ r. IsReply bytes.now (Question.Check cert.now) r.answer r.output.items) }
+    ensures { IfOk result (λ r. IsReply bytes.now
+        (Question.Check cert.now) r.answer r.output.items) }
 {
     match read_jobs(alloc, bytes)? {
         JobsRead::Read(jobs) => {

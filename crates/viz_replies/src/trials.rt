@@ -7,14 +7,14 @@ ghost use Rattle.viz_replies.specs.Headline.{IsFalseWhereNamed};
 ghost use Rattle.viz_replies.specs.Truths.{IsTrueEverywhere};
 ghost use Rattle.viz_replies.specs.steps.Answers.{IsTrialReply};
 
+use crate::faults::GenFault;
+use crate::generator::generate;
 use crate::jobs::{JobsRead, read_jobs};
 use crate::laws::parts_hold;
 use crate::lines::{push_line, push_number};
 use crate::question::Sections;
 use crate::reply::{Answer, Reply};
 use crate::searches::{Found, search};
-use crate::faults::GenFault;
-use crate::generator::generate;
 use std::alloc::Global;
 use viz_base::{Job, Mem, world_count};
 
@@ -116,7 +116,8 @@ pub fn reply_to_trial(
     turns: u64,
 ) -> Result<Reply, Mem>
     // Where the job is said to be proved, its assertion is true of the CSS 2.1 rendering at every world of its range,
-    ensures proved { IfOk result (λ r. r.answer ≡ Answer.Done → IsTrueEverywhere (job_text seed sections.count)) }
+    ensures proved { IfOk result (λ r. r.answer ≡ Answer.Done
+        → IsTrueEverywhere (job_text seed sections.count)) }
     // and where it is said to be violated, it is false at the world of the range that is named.
     ensures violated { IfOk result (λ r. r.answer ≡ Answer.Violated
         → IsFalseWhereNamed (job_text seed sections.count) r.output.items) }

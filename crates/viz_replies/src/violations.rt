@@ -7,9 +7,9 @@ ghost use Rattle.viz_replies.specs.steps.Violations.{blame_lines_of, violation_l
 ghost use Rattle.viz_base.specs.declared.limits.TheConstants.{MOST_PIXELS, MOST_SIZE};
 
 use crate::lines::{push_blamed, push_world};
+use crate::printing::print;
 use crate::reply::{Answer, Reply};
 use lay_flow::render_at;
-use crate::printing::print;
 use std::alloc::Global;
 use vis_truth::blame;
 use viz_base::{Job, Mem, Rendering, World};
@@ -23,7 +23,8 @@ fn push_blame(
     rendering: &Rendering<i128>,
 ) -> Result<(), Mem>
     requires bounded { IsBoundedRendering rendering.now }
-    ensures { OnOk result (out.new.items ≡ out.old.items ++ blame_lines_of job.now world rendering.now) }
+    ensures { OnOk result (out.new.items
+        ≡ out.old.items ++ blame_lines_of job.now world rendering.now) }
 {
     if u32::try_from(rendering.boxes.len()).is_err() {
         return Err(Mem);
@@ -49,7 +50,8 @@ fn push_violation(
     rendering: &Rendering<i128>,
 ) -> Result<(), Mem>
     requires bounded { IsBoundedRendering rendering.now }
-    ensures { OnOk result (out.new.items ≡ out.old.items ++ violation_lines_of job.now world rendering.now) }
+    ensures { OnOk result (out.new.items
+        ≡ out.old.items ++ violation_lines_of job.now world rendering.now) }
 {
     out.extend_from_slice(b"violated")?;
     push_world(out, job.form, world)?;
@@ -82,7 +84,8 @@ pub fn violation(alloc: Global, job: &Job, world: World) -> Result<Reply, Mem>
     requires narrow { world.w ≤ MOST_PIXELS }
     requires sized { world.s ≤ MOST_SIZE }
     requires low { world.h ≤ MOST_PIXELS }
-    ensures { IfOk result (λ r. (r.answer ≡ Answer.Violated) × (r.output.items ≡ violation_text job.now world)) }
+    ensures { IfOk result (λ r. (r.answer ≡ Answer.Violated)
+        × (r.output.items ≡ violation_text job.now world)) }
 {
     let rendering = render_at(alloc, world, &job.tree)?;
     let reply = violation_by(alloc, job, world, &rendering);

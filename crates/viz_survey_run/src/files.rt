@@ -29,7 +29,8 @@ fn reply_behind<F: Shelf>(
         (λ r. IsOfOther (shelved F.files F.loads shelf.old shelf.new) shelf.old command.entry job.now
         r.answer r.output.items)) }
     ensures wanting { IsErr result → (answer : Result Loaded ShelfFault)
-        × F.loads shelf.old command.entry.other.now (cap_of command.entry.request) answer shelf.new }
+        × F.loads shelf.old command.entry.other.now
+        (cap_of command.entry.request) answer shelf.new }
     ensures failed { result ≡ Ok None → Rose (F.faults shelf.old) (F.faults shelf.new) }
     ensures sure { IsTrue (F.sure shelf.old command.entry.other.now) → result ≢ Ok None }
 {
@@ -55,7 +56,8 @@ pub(crate) fn reply_over<F: Shelf>(
 ) -> Result<Option<Report>, Mem>
     ensures reply { IfOk result (λ found. MatchOption found
         (LoadsLast (shelved F.files F.loads shelf.old shelf.new) command.entry (Err Failed))
-        (λ r. IsReplied (shelved F.files F.loads shelf.old shelf.new) command.entry r.answer r.output.items)) }
+        (λ r. IsReplied
+        (shelved F.files F.loads shelf.old shelf.new) command.entry r.answer r.output.items)) }
     ensures wanting { IsErr result → (answer : Result Loaded ShelfFault)
         × LoadsLast (shelved F.files F.loads shelf.old shelf.new) command.entry answer }
     ensures failed { result ≡ Ok None → Rose (F.faults shelf.old) (F.faults shelf.new) }

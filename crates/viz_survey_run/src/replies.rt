@@ -56,7 +56,8 @@ pub(crate) fn report_on(
 
 /// The report where the second file has more bytes than it may.
 pub(crate) fn report_of_long(alloc: Global, request: Request) -> Result<Report, Mem>
-    ensures { IfOk result (λ r. (r.answer ≡ long_answer request) × (r.output.items ≡ long_text request)) }
+    ensures { IfOk result (λ r. (r.answer ≡ long_answer request)
+        × (r.output.items ≡ long_text request)) }
 {
     match request {
         Request::Table(_) => Ok(of_table(long_list(alloc)?)),

@@ -18,7 +18,8 @@ fn deliver<K: Sink>(sink: &mut K, status: SurveyStatus, output: &[u8]) -> Survey
     requires { status ≢ SurveyStatus.WriteFault }
     ensures delivers { Delivers (record { written = K.written; faults = K.faults; old = sink.old; new = sink.new })
         result status output.now }
-    ensures write_fault { result ≡ SurveyStatus.WriteFault → Rose (K.faults sink.old) (K.faults sink.new) }
+    ensures write_fault { result ≡ SurveyStatus.WriteFault
+        → Rose (K.faults sink.old) (K.faults sink.new) }
 {
     match write_all(sink, output) {
         Ok(()) => status,
@@ -35,10 +36,12 @@ fn obey<F: Shelf, K: Sink>(
 ) -> SurveyStatus
     ensures outcome { Obeys (shelved F.files F.loads shelf.old shelf.new) command.entry
         (record { written = K.written; faults = K.faults; old = sink.old; new = sink.new }) result }
-    ensures read_fault { result ≡ SurveyStatus.ReadFault → Rose (F.faults shelf.old) (F.faults shelf.new) }
+    ensures read_fault { result ≡ SurveyStatus.ReadFault
+        → Rose (F.faults shelf.old) (F.faults shelf.new) }
     ensures sure { IsTrue (F.sure shelf.old command.entry.job.now)
         → IsTrue (F.sure shelf.old command.entry.other.now) → result ≢ SurveyStatus.ReadFault }
-    ensures write_fault { result ≡ SurveyStatus.WriteFault → Rose (K.faults sink.old) (K.faults sink.new) }
+    ensures write_fault { result ≡ SurveyStatus.WriteFault
+        → Rose (K.faults sink.old) (K.faults sink.new) }
 {
     match reply_over(alloc, command, shelf) {
         Ok(Some(report)) => deliver(
@@ -58,12 +61,16 @@ fn answer<F: Shelf, K: Sink>(
     shelf: &mut F,
     sink: &mut K,
 ) -> SurveyStatus
-    ensures outcome { IsOutcome (shelved F.files F.loads shelf.old shelf.new) (map string_bytes words.now)
+    ensures outcome { IsOutcome (shelved F.files F.loads shelf.old shelf.new)
+        (map string_bytes words.now)
         (record { written = K.written; faults = K.faults; old = sink.old; new = sink.new }) result }
-    ensures read_fault { result ≡ SurveyStatus.ReadFault → Rose (F.faults shelf.old) (F.faults shelf.new) }
+    ensures read_fault { result ≡ SurveyStatus.ReadFault
+        → Rose (F.faults shelf.old) (F.faults shelf.new) }
     ensures sure { IsTrue (F.sure shelf.old (word_at (map string_bytes words.now) 1))
-        → IsTrue (F.sure shelf.old (word_at (map string_bytes words.now) 2)) → result ≢ SurveyStatus.ReadFault }
-    ensures write_fault { result ≡ SurveyStatus.WriteFault → Rose (K.faults sink.old) (K.faults sink.new) }
+        → IsTrue (F.sure shelf.old (word_at (map string_bytes words.now) 2))
+        → result ≢ SurveyStatus.ReadFault }
+    ensures write_fault { result ≡ SurveyStatus.WriteFault
+        → Rose (K.faults sink.old) (K.faults sink.new) }
 {
     match command_of(words) {
         Some(command) => obey(alloc, command, shelf, sink),
@@ -86,19 +93,24 @@ pub fn survey<F: Shelf, K: Sink>(
     // rendering at every world of the range, the rendering being by the rules that are met there (Media Queries 3).
     ensures renewed { result ≡ SurveyStatus.Replied SurveyAnswer.Done
         → word_at (map string_bytes words.now) 0 ≡ codes "renew"
-        → IsTrueOfFile (shelved F.files F.loads shelf.old shelf.new) (word_at (map string_bytes words.now) 1) }
+        → IsTrueOfFile (shelved F.files F.loads shelf.old shelf.new)
+        (word_at (map string_bytes words.now) 1) }
     // Where it says that it is violated, it is false at the world of the range that is written.
     ensures violated { result ≡ SurveyStatus.Replied SurveyAnswer.Violated
         → word_at (map string_bytes words.now) 0 ≡ codes "renew"
-        → IsFalseOfFirst (shelved F.files F.loads shelf.old shelf.new) (word_at (map string_bytes words.now) 1)
-        (K.written sink.old) (K.written sink.new) }
+        → IsFalseOfFirst (shelved F.files F.loads shelf.old shelf.new)
+        (word_at (map string_bytes words.now) 1) (K.written sink.old) (K.written sink.new) }
     // The words are of no form, or the reply to the command that they ask for is written.
-    ensures outcome { IsOutcome (shelved F.files F.loads shelf.old shelf.new) (map string_bytes words.now)
+    ensures outcome { IsOutcome (shelved F.files F.loads shelf.old shelf.new)
+        (map string_bytes words.now)
         (record { written = K.written; faults = K.faults; old = sink.old; new = sink.new }) result }
-    ensures read_fault { result ≡ SurveyStatus.ReadFault → Rose (F.faults shelf.old) (F.faults shelf.new) }
+    ensures read_fault { result ≡ SurveyStatus.ReadFault
+        → Rose (F.faults shelf.old) (F.faults shelf.new) }
     ensures sure { IsTrue (F.sure shelf.old (word_at (map string_bytes words.now) 1))
-        → IsTrue (F.sure shelf.old (word_at (map string_bytes words.now) 2)) → result ≢ SurveyStatus.ReadFault }
-    ensures write_fault { result ≡ SurveyStatus.WriteFault → Rose (K.faults sink.old) (K.faults sink.new) }
+        → IsTrue (F.sure shelf.old (word_at (map string_bytes words.now) 2))
+        → result ≢ SurveyStatus.ReadFault }
+    ensures write_fault { result ≡ SurveyStatus.WriteFault
+        → Rose (K.faults sink.old) (K.faults sink.new) }
 {
     parts_hold();
     answer(alloc, words, shelf, sink)

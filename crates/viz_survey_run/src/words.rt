@@ -38,7 +38,8 @@ pub struct Command<'a> {
 
 /// What is asked about these files, if both have names.
 fn about<'a>(job: &'a str, other: &'a str, request: Request) -> Option<Command<'a>>
-    ensures { MatchOption result ((job.now ≡ []) ⊎ (other.now ≡ [])) (IsAbout job.now other.now request) }
+    ensures { MatchOption result ((job.now ≡ [])
+        ⊎ (other.now ≡ [])) (IsAbout job.now other.now request) }
 {
     if job.is_empty() || other.is_empty() {
         return None;
@@ -104,7 +105,8 @@ fn kept_of<'a>(verb: &str, job: &'a str, cert: &'a str) -> Option<Command<'a>>
 
 /// What the words ask for, if they are of a form. It takes no memory.
 pub fn command_of(words: &[String]) -> Option<Command<'_>>
-    ensures { MatchOption result (AskNothing (map string_bytes words.now)) (Asks (map string_bytes words.now)) }
+    ensures { MatchOption result (AskNothing (map string_bytes words.now))
+        (Asks (map string_bytes words.now)) }
 {
     match words {
         [verb, job, other, turns] => table_or_renew_of(

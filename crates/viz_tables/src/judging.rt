@@ -29,8 +29,8 @@ fn refused_rule(alloc: Global, line: u64, why: JobRefusal) -> Result<Option<Tabl
 
 /// The reply about the first rule under whose formula the job file is refused, if there is one.
 pub(crate) fn first_refused(alloc: Global, job: &[u8], rules: &[Rule]) -> Result<Option<Table>, Mem>
-    ensures { IfOk result (λ table.
-        MatchOption table (AreTaken job.now rules.now) (λ t. IsRefusedAt job.now rules.now t.answer t.output.items)) }
+    ensures { IfOk result (λ table. MatchOption table (AreTaken job.now rules.now)
+        (λ t. IsRefusedAt job.now rules.now t.answer t.output.items)) }
 {
     for at in 0..rules.len() {
         match judge(alloc, job, &rules[at]) {

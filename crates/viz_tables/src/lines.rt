@@ -47,7 +47,8 @@ fn push_line(out: &mut Vec<u8>, name: &[u8], line: Line) -> Result<(), AllocErro
 
 /// The lines of a rule's survey.
 pub(crate) fn push_lines(out: &mut Vec<u8>, name: &[u8], lines: &[Line]) -> Result<(), AllocError>
-    ensures { OnOk result (out.new.items ≡ out.old.items ++ flat_map (line_text name.now) lines.now) }
+    ensures { OnOk result (out.new.items
+        ≡ out.old.items ++ flat_map (line_text name.now) lines.now) }
 {
     for line in lines {
         push_line(out, name, *line)?;

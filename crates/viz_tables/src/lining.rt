@@ -12,8 +12,10 @@ fn other_from(words: &[Word], from: usize) -> usize
     requires { from < length words.now }
     ensures least { from < result }
     ensures most { result ≤ length words.now }
-    ensures same { (at : ℕ) → from ≤ at → at < result → slice_get words.now at ≡ slice_get words.now from }
-    ensures other { result < length words.now → slice_get words.now result ≢ slice_get words.now from }
+    ensures same { (at : ℕ) → from ≤ at → at < result
+        → slice_get words.now at ≡ slice_get words.now from }
+    ensures other { result < length words.now
+        → slice_get words.now result ≢ slice_get words.now from }
 {
     let mut at = from + 1;
     while at < words.len() && words[at] == words[from] {

@@ -11,10 +11,9 @@ use viz_base::List;
 
 /// Adds the rule that a line is behind others.
 fn add_line(alloc: Global, rules: &mut List<Rule>, line: &[u8]) -> Result<(), ListFault>
-    ensures { MatchResult result
-        (λ _. (rule : Rule) × (next_rule rules.old line.now ≡ Some rule) × (rules.new ≡ rules.old ++ rule ∷ []))
-        (λ fault. fault ≢ ListFault.Mem → (next_rule rules.old line.now ≡ None)
-        × (fault ≡ ListFault.Form (length rules.old))) }
+    ensures { MatchResult result (λ _. (rule : Rule) × (next_rule rules.old line.now ≡ Some rule)
+        × (rules.new ≡ rules.old ++ rule ∷ [])) (λ fault. fault ≢ ListFault.Mem
+        → (next_rule rules.old line.now ≡ None) × (fault ≡ ListFault.Form (length rules.old))) }
 {
     match next_rule(alloc, rules.as_slice(), line)? {
         Some(rule) => Ok(rules.push(rule)?),

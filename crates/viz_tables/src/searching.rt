@@ -227,7 +227,8 @@ fn first_false(alloc: Global, job: &Job, a: World, b: World) -> Result<Option<Wo
     requires first { IsInRange job.now.range a }
     requires second { IsInRange job.now.range b }
     requires width { a.w ≡ b.w }
-    ensures { IfOk result (λ found. IfSome found (λ world. IsInRange job.now.range world × (world.w ≡ a.w)
+    ensures { IfOk result (λ found. IfSome found
+        (λ world. IsInRange job.now.range world × (world.w ≡ a.w)
         × (is_true_at job.now world ≡ false))) }
 {
     if !holds_at(alloc, job, a)? {

@@ -10,9 +10,9 @@ ghost use Rattle.viz_tables.specs.Searches.{AreSurveyed, HaveRange};
 use crate::joining::lines_of;
 use crate::words::Line;
 use page_build::{JobRefusal, build_with};
-use viz_replies::parts_tell;
 use std::alloc::Global;
 use viz_base::{Job, List, Mem, Rect};
+use viz_replies::parts_tell;
 
 /// The range that jobs have, of which there is one.
 fn range_of(jobs: &[Job]) -> Rect

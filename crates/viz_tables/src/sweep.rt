@@ -22,7 +22,8 @@ pub(crate) fn push_words(words: &mut List<Word>, word: Word, count: u32) -> Resu
 fn swept(alloc: Global, job: &mut Job, turns: u64) -> Result<List<Word>, Mem>
     ensures same { job.new ≡ job.old }
     ensures count { IfOk result (λ words. job.old.range.wl + length words ≡ job.old.range.wh + 1) }
-    ensures right { IfOk result (AreRight job.old.range (is_true_at job.old) turns job.old.range.wl) }
+    ensures right { IfOk result (AreRight job.old.range
+        (is_true_at job.old) turns job.old.range.wl) }
 {
     let mut words = List::new(alloc);
     let mut start = World {

@@ -22,7 +22,8 @@ pub const LIST_MOST: usize = 2_097_152;
 
 /// The reply about a list of more than `LIST_MOST` bytes.
 pub fn long_list(alloc: Global) -> Result<Table, Mem>
-    ensures { IfOk result (λ r. (r.answer ≡ TableAnswer.ListRefused) × (r.output.items ≡ long_list_line)) }
+    ensures { IfOk result (λ r. (r.answer ≡ TableAnswer.ListRefused)
+        × (r.output.items ≡ long_list_line)) }
 {
     Ok(Table {
         answer: TableAnswer::ListRefused,
