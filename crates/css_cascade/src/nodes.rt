@@ -6,7 +6,7 @@ ghost use Rattle.css_semantics.specs.CascadeNodes.{is_limit, is_refused, sets_li
 ghost use Rattle.css_semantics.specs.CascadeNodes.{sets_min_height, sets_min_width, set_by, settings_by, settings_of};
 ghost use Rattle.css_semantics.specs.CascadeNodes.{standing_around, standing_of};
 
-use css_semantics::{Claim, Standing};
+use css_semantics::{AT_NONE, Claim, Standing};
 use std::alloc::Global;
 use viz_base::{List, Mem, Prop, Setting, Value};
 
@@ -104,7 +104,7 @@ pub fn first_refused<'a>(
 fn hides(claim: &Claim) -> bool
     ensures { result ≡ hides claim.now }
 {
-    claim.prop == Prop::Display && matches!(claim.value, Some(Value::Word(0)))
+    claim.prop == Prop::Display && matches!(claim.value, Some(Value::Word(AT_NONE)))
 }
 
 /// Whether `display: none` is among winners.

@@ -7,6 +7,7 @@ use Rattle.viz_base.specs.declared.settings.Prop.TheVariants as of_prop
 use Rattle.viz_base.specs.declared.settings.Setting.{Setting}
 use Rattle.viz_base.specs.declared.settings.Value.{Value}
 use Rattle.viz_base.specs.declared.settings.Value.TheVariants as of_value
+use Rattle.css_semantics.specs.Places.{at_none}
 use Rattle.css_semantics.specs.declared.claims.Claim.{Claim}
 use Rattle.css_semantics.specs.declared.claims.Standing.{Standing}
 use Rattle.css_semantics.specs.CascadeOrder.{Applied, winner_of, is_prop}
@@ -80,7 +81,7 @@ is_word n (Some (of_value.Word m)) = m == n
 is_word n _ = false
 
 abbrev pub hides : Claim → Bool
-hides c = is_prop c.prop of_prop.Display && is_word 0 c.value
+hides c = is_prop c.prop of_prop.Display && is_word at_none c.value
 
 -- the first of the winners that is refused
 abbrev pub first_refused : Bool → Standing → List Claim → Option Claim

@@ -5,6 +5,7 @@ use Rattle.std.specs.Option.{option_map_or}
 use Rattle.viz_base.specs.declared.nodes.Node.{Node}
 use Rattle.viz_base.specs.declared.settings.Prop.TheVariants as of_prop
 use Rattle.viz_base.specs.declared.settings.Setting.{Setting}
+use Rattle.css_semantics.specs.Places.{at_none}
 use Rattle.css_semantics.specs.declared.claims.Ruleset.{Ruleset}
 use Rattle.css_semantics.specs.declared.claims.Standing.{Standing}
 use Rattle.css_semantics.specs.Matching.{IsAncestor}
@@ -14,7 +15,7 @@ use Rattle.css_semantics.specs.Cascade.{ComesTo}
 
 -- `display: none`
 abbrev pub is_none : Setting → Bool
-is_none s = is_prop s.prop of_prop.Display && is_word 0 (Some s.value)
+is_none s = is_prop s.prop of_prop.Display && is_word at_none (Some s.value)
 
 -- it wins at this node
 abbrev pub has_none : List (List Setting) → ℕ → Bool

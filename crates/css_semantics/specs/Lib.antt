@@ -15,7 +15,9 @@ pub mod SelectorGrammar
 pub mod Matching
 pub mod Specificity
 pub mod SelectorLaws
+pub mod Places
 pub mod Properties
+pub mod InitialWords
 pub mod ValuesParts
 pub mod Values
 pub mod MediaLists

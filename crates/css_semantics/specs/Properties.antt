@@ -10,6 +10,7 @@ use Rattle.viz_base.specs.declared.settings.Value.TheVariants.{Word, Px, Names}
 use Rattle.css_semantics.specs.declared.parts.Takes.{Takes}
 use Rattle.css_semantics.specs.declared.parts.Takes.TheVariants.{Nothing, All, NotNegative, ZeroAlone}
 use Rattle.css_semantics.specs.Names.{same_name}
+use Rattle.css_semantics.specs.Places.{at_none, at_inline, at_static, at_visible, at_ltr, at_auto, at_normal, at_baseline, at_left, at_outside, at_medium_width, at_medium_size}
 
 -- ---- names
 
@@ -93,18 +94,18 @@ zero = Px (pos 0)
 -- The rows of the properties of CSS 2.1, 8.3 to 8.5, 9.2.4, 9.3.1, 9.5, 9.10, 10.2 to 10.8, 11.1.1,
 -- 12.2, 12.5, 15.3, 15.7 and 16.1 to 16.6. What is refused by name is this project's own choice.
 abbrev pub row : Prop → Row
-row Display = keywords "display" (each_word (codes "none block inline inline-block list-item")) table_words 2 false
-row Position = keywords "position" (each_word (codes "static")) (each_word (codes "relative absolute fixed")) 0 false
-row Float = keywords "float" (each_word (codes "none left right")) [] 0 false
-row Clear = keywords "clear" (each_word (codes "none left right both")) [] 0 false
-row Overflow = keywords "overflow" (each_word (codes "visible hidden scroll auto")) [] 0 false
-row Direction = keywords "direction" (each_word (codes "ltr")) (each_word (codes "rtl")) 0 true
-row Width = measured "width" (each_word (codes "auto")) NotNegative NotNegative (Word 0)
-row Height = measured "height" (each_word (codes "auto")) NotNegative NotNegative (Word 0)
+row Display = keywords "display" (each_word (codes "none block inline inline-block list-item")) table_words at_inline false
+row Position = keywords "position" (each_word (codes "static")) (each_word (codes "relative absolute fixed")) at_static false
+row Float = keywords "float" (each_word (codes "none left right")) [] at_none false
+row Clear = keywords "clear" (each_word (codes "none left right both")) [] at_none false
+row Overflow = keywords "overflow" (each_word (codes "visible hidden scroll auto")) [] at_visible false
+row Direction = keywords "direction" (each_word (codes "ltr")) (each_word (codes "rtl")) at_ltr true
+row Width = measured "width" (each_word (codes "auto")) NotNegative NotNegative (Word at_auto)
+row Height = measured "height" (each_word (codes "auto")) NotNegative NotNegative (Word at_auto)
 row MinWidth = measured "min-width" [] NotNegative NotNegative zero
 row MinHeight = measured "min-height" [] NotNegative NotNegative zero
-row MaxWidth = measured "max-width" (each_word (codes "none")) NotNegative NotNegative (Word 0)
-row MaxHeight = measured "max-height" (each_word (codes "none")) NotNegative NotNegative (Word 0)
+row MaxWidth = measured "max-width" (each_word (codes "none")) NotNegative NotNegative (Word at_none)
+row MaxHeight = measured "max-height" (each_word (codes "none")) NotNegative NotNegative (Word at_none)
 row MarginTop = measured "margin-top" (each_word (codes "auto")) All All zero
 row MarginRight = measured "margin-right" (each_word (codes "auto")) All All zero
 row MarginBottom = measured "margin-bottom" (each_word (codes "auto")) All All zero
@@ -113,36 +114,36 @@ row PaddingTop = measured "padding-top" [] NotNegative NotNegative zero
 row PaddingRight = measured "padding-right" [] NotNegative NotNegative zero
 row PaddingBottom = measured "padding-bottom" [] NotNegative NotNegative zero
 row PaddingLeft = measured "padding-left" [] NotNegative NotNegative zero
-row BorderTopWidth = measured "border-top-width" line_widths NotNegative Nothing (Word 1)
-row BorderRightWidth = measured "border-right-width" line_widths NotNegative Nothing (Word 1)
-row BorderBottomWidth = measured "border-bottom-width" line_widths NotNegative Nothing (Word 1)
-row BorderLeftWidth = measured "border-left-width" line_widths NotNegative Nothing (Word 1)
-row BorderTopStyle = keywords "border-top-style" line_styles [] 0 false
-row BorderRightStyle = keywords "border-right-style" line_styles [] 0 false
-row BorderBottomStyle = keywords "border-bottom-style" line_styles [] 0 false
-row BorderLeftStyle = keywords "border-left-style" line_styles [] 0 false
-row FontSize = record (measured "font-size" size_words NotNegative NotNegative (Word 3)) { inherits = true }
+row BorderTopWidth = measured "border-top-width" line_widths NotNegative Nothing (Word at_medium_width)
+row BorderRightWidth = measured "border-right-width" line_widths NotNegative Nothing (Word at_medium_width)
+row BorderBottomWidth = measured "border-bottom-width" line_widths NotNegative Nothing (Word at_medium_width)
+row BorderLeftWidth = measured "border-left-width" line_widths NotNegative Nothing (Word at_medium_width)
+row BorderTopStyle = keywords "border-top-style" line_styles [] at_none false
+row BorderRightStyle = keywords "border-right-style" line_styles [] at_none false
+row BorderBottomStyle = keywords "border-bottom-style" line_styles [] at_none false
+row BorderLeftStyle = keywords "border-left-style" line_styles [] at_none false
+row FontSize = record (measured "font-size" size_words NotNegative NotNegative (Word at_medium_size)) { inherits = true }
 -- the initial value names no family: the first font of the job follows
 row FontFamily = record (measured "font-family" [] Nothing Nothing (Names [])) { families = true; inherits = true }
-row LineHeight = record (measured "line-height" (each_word (codes "normal")) NotNegative NotNegative (Word 0))
+row LineHeight = record (measured "line-height" (each_word (codes "normal")) NotNegative NotNegative (Word at_normal))
     { numbers = NotNegative; inherits = true }
 row VerticalAlign =
-    record (measured "vertical-align" (each_word (codes "baseline sub super middle")) All All (Word 0))
+    record (measured "vertical-align" (each_word (codes "baseline sub super middle")) All All (Word at_baseline))
     { refused = each_word (codes "top bottom text-top text-bottom") }
-row TextAlign = keywords "text-align" (each_word (codes "left right center justify")) [] 0 true
+row TextAlign = keywords "text-align" (each_word (codes "left right center justify")) [] at_left true
 row WhiteSpace = keywords "white-space" (each_word (codes "normal nowrap"))
-    (each_word (codes "pre pre-wrap pre-line")) 0 true
+    (each_word (codes "pre pre-wrap pre-line")) at_normal true
 row TextIndent = record (measured "text-indent" [] ZeroAlone ZeroAlone zero) { inherits = true }
 row LetterSpacing =
-    record (measured "letter-spacing" (each_word (codes "normal")) ZeroAlone Nothing (Word 0)) { inherits = true }
+    record (measured "letter-spacing" (each_word (codes "normal")) ZeroAlone Nothing (Word at_normal)) { inherits = true }
 row WordSpacing =
-    record (measured "word-spacing" (each_word (codes "normal")) ZeroAlone Nothing (Word 0)) { inherits = true }
+    record (measured "word-spacing" (each_word (codes "normal")) ZeroAlone Nothing (Word at_normal)) { inherits = true }
 row TextTransform =
-    keywords "text-transform" (each_word (codes "none")) (each_word (codes "capitalize uppercase lowercase")) 0 true
-row ListStylePosition = keywords "list-style-position" (each_word (codes "outside")) (each_word (codes "inside")) 0 true
+    keywords "text-transform" (each_word (codes "none")) (each_word (codes "capitalize uppercase lowercase")) at_none true
+row ListStylePosition = keywords "list-style-position" (each_word (codes "outside")) (each_word (codes "inside")) at_outside true
 row Content =
     record (keywords "content" (each_word (codes "normal none"))
-    (each_word (codes "open-quote close-quote no-open-quote no-close-quote")) 0 false)
+    (each_word (codes "open-quote close-quote no-open-quote no-close-quote")) at_normal false)
     { strings = true }
 
 -- the properties in the order of the table

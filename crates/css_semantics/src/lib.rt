@@ -7,6 +7,7 @@ mod claims;
 mod laws;
 mod media;
 mod parts;
+mod places;
 mod selectors;
 mod sheets;
 mod statements;
@@ -21,13 +22,15 @@ pub use laws::{
 };
 pub use media::{MediaPiece, MediaWord};
 pub use parts::{Part, Refusal, Shorthand, Takes};
+pub use places::{AT_FIRST, AT_INLINE, AT_MEDIUM_SIZE, AT_MEDIUM_WIDTH, AT_NONE, AT_NORMAL};
 pub use selectors::{joins_say_where, specificity_counts, specificity_order};
 pub use sheets::{one_list_of_declarations, one_media_list, one_sheet, one_stretch};
 pub use statements::Statement;
 pub use terminals::{ColonName, Comparison, Terminal};
 pub use tokens::Token;
 pub use value_laws::{
-    fewer_sides, one_answer, settings_in_order, values_allowed, values_by_the_table,
+    fewer_sides, initial_words_at_their_places, one_answer, settings_in_order, values_allowed,
+    values_by_the_table,
 };
 pub use winners::{
     hidden_by_display, hidden_inside, important_overrides, one_specificity, one_winner,

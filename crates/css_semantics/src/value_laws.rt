@@ -6,6 +6,7 @@ ghost use Rattle.viz_base.specs.declared.settings.Setting.{Setting};
 ghost use Rattle.css_semantics.specs.declared.parts.Part.{Part};
 ghost use Rattle.css_semantics.specs.declared.parts.Refusal.{Refusal};
 ghost use Rattle.css_semantics.specs.declared.parts.Shorthand.{Shorthand};
+ghost use Rattle.css_semantics.specs.InitialWords.{StandAtTheirPlaces};
 ghost use Rattle.css_semantics.specs.Properties.{properties, row};
 ghost use Rattle.css_semantics.specs.Values.{longhand, part_value};
 ghost use Rattle.css_semantics.specs.Shorthands.{Says, declared, shorthand};
@@ -27,6 +28,12 @@ pub fn settings_in_order()
 /// and only zero is accepted where it says that (CSS 2.1, 4.3.2).
 pub fn values_by_the_table()
     ensures { (p : Prop) (a : Part) (v : Value) → part_value p a ≡ Ok v → HasValue (row p) v }
+{}
+
+/// A law: each keyword that is an initial value stands in its property's row at the place that is named for it (CSS
+/// 2.1, 6.1.1).
+pub fn initial_words_at_their_places()
+    ensures { StandAtTheirPlaces }
 {}
 
 /// A law: each setting of a declaration is one that the property's row of the table allows: `inherit`, names of

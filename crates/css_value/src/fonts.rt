@@ -9,7 +9,7 @@ use crate::families::families;
 use crate::fault::ValueFault;
 use crate::sides::{inherit, set};
 use crate::values::{is_inherit, is_keyword, part_value};
-use css_semantics::Part;
+use css_semantics::{AT_MEDIUM_SIZE, AT_NORMAL, Part};
 use std::alloc::Global;
 use viz_base::{List, Prop, Setting, Value};
 
@@ -91,7 +91,7 @@ fn font_from_size(alloc: Global, parts: &[Part]) -> Result<List<Setting>, ValueF
             let height = part_value(Prop::LineHeight, height)?;
             named_font(alloc, size, height, names)
         }
-        None => named_font(alloc, size, Value::Word(0), after),
+        None => named_font(alloc, size, Value::Word(AT_NORMAL), after),
     }
 }
 
@@ -127,13 +127,13 @@ fn system_font(alloc: Global) -> Result<List<Setting>, ValueFault>
     ensures { Gives (λ x. x) refusal_of result (Ok system_font) }
 {
     let mut settings = List::new(alloc);
-    set(&mut settings, Prop::FontSize, Value::Word(3))?;
+    set(&mut settings, Prop::FontSize, Value::Word(AT_MEDIUM_SIZE))?;
     set(
         &mut settings,
         Prop::FontFamily,
         Value::Names(List::new(alloc)),
     )?;
-    set(&mut settings, Prop::LineHeight, Value::Word(0))?;
+    set(&mut settings, Prop::LineHeight, Value::Word(AT_NORMAL))?;
     Ok(settings)
 }
 

@@ -2,6 +2,7 @@ ghost use Rattle.std.specs.Prelude.{◌≡◌};
 ghost use Rattle.css_semantics.specs.Properties.{row};
 ghost use Rattle.css_value.specs.Initials.{initial_value};
 
+use css_semantics::{AT_FIRST, AT_INLINE, AT_MEDIUM_SIZE, AT_MEDIUM_WIDTH};
 use viz_base::Prop;
 
 /// The value of a property that nothing sets, where it doesn't inherit or at the root (CSS 2.1, 6.1.1).
@@ -20,13 +21,13 @@ pub fn initial_of(prop: Prop) -> Initial
     ensures { initial_value result ≡ (row prop).initial }
 {
     match prop {
-        Prop::Display => Initial::Word(2),
-        Prop::FontSize => Initial::Word(3),
+        Prop::Display => Initial::Word(AT_INLINE),
+        Prop::FontSize => Initial::Word(AT_MEDIUM_SIZE),
         Prop::FontFamily => Initial::NoFamilies,
         Prop::BorderTopWidth
         | Prop::BorderRightWidth
         | Prop::BorderBottomWidth
-        | Prop::BorderLeftWidth => Initial::Word(1),
+        | Prop::BorderLeftWidth => Initial::Word(AT_MEDIUM_WIDTH),
         Prop::MinWidth
         | Prop::MinHeight
         | Prop::MarginTop
@@ -38,7 +39,7 @@ pub fn initial_of(prop: Prop) -> Initial
         | Prop::PaddingBottom
         | Prop::PaddingLeft
         | Prop::TextIndent => Initial::Zero,
-        _ => Initial::Word(0),
+        _ => Initial::Word(AT_FIRST),
     }
 }
 
