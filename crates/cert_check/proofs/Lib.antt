@@ -4,6 +4,7 @@ pub mod FirstWorlds
 pub mod FirstUntrue
 pub mod Causes
 pub mod Bounded
+pub mod NarrowWorlds
 pub mod Texts
 pub mod Leaves
 pub mod Descents

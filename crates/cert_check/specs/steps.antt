@@ -4,3 +4,4 @@ pub mod Stream
 pub mod Tells
 pub mod Worlds
 pub mod Ways
+pub mod Narrow

@@ -19,8 +19,9 @@ use viz_base::{Job, Mem};
 /// One without leaves whose numbers stay in `i128` is accepted exactly where it is right, and those of unit splits and
 /// grids do. The only fault is want of memory.
 ///
-/// Each leaf takes one layout of the page, and so does each world of a grid's path; each line of a derivation is
-/// checked once. The call goes as deep as the certificate's defs, splits and lemmas stand in one another.
+/// Each leaf takes one layout of the page, and so does each world of a grid's path, or two where its numbers pass 64
+/// bits; each line of a derivation is checked once. The call goes as deep as the certificate's defs, splits and lemmas
+/// stand in one another.
 pub fn check(alloc: Global, job: &Job, cert: &Cert) -> Result<Verdict, Mem>
     requires few { length (nodes_of job.now.form cert.now) + axis_count job.now.form < 2 ^ 32 }
     ensures verdict { IfOk result (λ verdict. IsVerdict job.now cert.now verdict) }

@@ -2,49 +2,18 @@ ghost use Rattle.std.specs.Prelude.{◌≡◌, ◌<◌, true, Ok, Some, None, Is
 ghost use Rattle.std.specs.Bool.{Decides};
 ghost use Rattle.viz_base.specs.Numbers.{Rose};
 ghost use Rattle.viz_calc.specs.State.{Grows, is_told, WhereOpen};
-ghost use Rattle.viz_calc.specs.World.{Reading};
 ghost use Rattle.sym_calc.specs.Calc.{state_of};
 ghost use Rattle.logic_semantics.specs.Ranges.{holds_at};
 ghost use Rattle.cert_check.specs.Truths.{is_true_at, rendering_of};
 ghost use Rattle.cert_path.specs.Paths.{Path};
 ghost use Rattle.cert_check.specs.Leaves.{StandsOver, IsLeafVerdict, IsTold, TakesRight, reject_of};
 
+use crate::truths::truth_over;
 use crate::verdicts::{Reject, Verdict};
-use lay_flow::render;
 use std::alloc::Global;
 use sym_calc::{Sym, Trouble};
-use vis_truth::{conclusion, truth};
-use viz_base::{Formula, Job, Mem};
+use viz_base::{Job, Mem};
 use viz_calc::Halt;
-
-/// Whether a formula is true of a page's rendering, laid out over a symbolic calc. A halt is counted by the calc,
-/// unless it is for want of memory.
-fn laid_out(alloc: Global, job: &Job, f: &Formula, sym: &mut Sym<'_>) -> Result<bool, Halt>
-    ensures grows { Grows (state_of sym.old) (state_of sym.new) }
-    ensures value { IfOk result (λ yes. (e : Reading) → IsTrue ((state_of sym.new).is_open e)
-        → yes ≡ holds_at (rendering_of job.now) f.now e.world) }
-    ensures told { IfErr result (λ halt. IsTrue (is_told true (state_of sym.new) (Some halt))) }
-{
-    match render(alloc, sym, &job.tree) {
-        Ok(rendering) => truth(sym, f, &rendering),
-        Err(halt) => Err(halt),
-    }
-}
-
-/// Whether a job's formula is true of its page's rendering, over a symbolic calc. Premises that ask for no box are
-/// asked first: where one is false, no page is laid out. A halt is counted by the calc, unless for want of memory.
-fn truth_over(alloc: Global, job: &Job, sym: &mut Sym<'_>) -> Result<bool, Halt>
-    ensures grows { Grows (state_of sym.old) (state_of sym.new) }
-    ensures value { IfOk result (λ yes. WhereOpen (state_of sym.new).is_open
-        (λ e. yes ≡ is_true_at job.now e.world)) }
-    ensures told { IfErr result (λ halt. IsTrue (is_told true (state_of sym.new) (Some halt))) }
-{
-    match conclusion(alloc, sym, &job.formula) {
-        Ok(Some(left)) => laid_out(alloc, job, left, sym),
-        Ok(None) => Ok(true),
-        Err(halt) => Err(halt),
-    }
-}
 
 /// The rejection of a leaf for a trouble of its calc.
 fn reject_of(node: u32, trouble: &Trouble) -> Result<Reject, Mem>
@@ -83,7 +52,7 @@ fn judge_leaf(
     ensures untroubled { result ≡ Ok None → sym.new.trouble ≡ None }
     ensures counted { result ≡ Ok None → 0 < sym.new.coeffs }
 {
-    let answer = truth_over(alloc, job, sym);
+    let answer = truth_over(alloc, sym, job);
     if let Some(trouble) = sym.trouble() {
         return Ok(Some(Verdict::Rejected(reject_of(node, trouble)?)));
     }

@@ -6,11 +6,13 @@ ghost use Rattle.logic_semantics.specs.Ranges.{holds_at as holds_there};
 ghost use Rattle.cert_check.specs.Truths.{is_true_at, rendering_of, IsTrueIn, IsFirstUntrueIn};
 
 use crate::look::{Look, first_world};
+use crate::narrow::Narrow;
+use crate::truths::truth_over;
 use lay_flow::render_at;
 use std::alloc::Global;
 use vis_truth::{conclusion, truth};
 use viz_base::{Formula, Job, Mem, Rect, World};
-use viz_calc::Plain;
+use viz_calc::{Halt, Plain};
 
 /// Whether a formula with small terms is true of a page's rendering at a world of the job's range.
 fn laid_out_at(alloc: Global, job: &Job, f: &Formula, world: World) -> Result<bool, Mem>
@@ -26,11 +28,8 @@ fn laid_out_at(alloc: Global, job: &Job, f: &Formula, world: World) -> Result<bo
     }
 }
 
-/// Whether a job's formula is true of its page's rendering at a world of the job's range.
-///
-/// It lays the page out once, or not at all where a premise is false that asks for no box, and copies nothing of the
-/// job. The only fault is want of memory.
-pub fn holds_at(alloc: Global, job: &Job, world: World) -> Result<bool, Mem>
+/// Whether a job's formula is true of its page's rendering at a world of the job's range, by numbers of 128 bits.
+fn exactly_at(alloc: Global, job: &Job, world: World) -> Result<bool, Mem>
     requires in_range { IsInRange job.now.range world }
     ensures { IfOk result (λ yes. yes ≡ is_true_at job.now world) }
 {
@@ -39,6 +38,21 @@ pub fn holds_at(alloc: Global, job: &Job, world: World) -> Result<bool, Mem>
         Ok(Some(left)) => laid_out_at(alloc, job, left, world),
         Ok(None) => Ok(true),
         Err(_) => unreachable!(),
+    }
+}
+
+/// Whether a job's formula is true of its page's rendering at a world of the job's range.
+///
+/// It lays the page out once, or again where 64 bits are too few for its numbers, and not at all where a premise is
+/// false that asks for no box, and copies nothing of the job. The only fault is want of memory.
+pub fn holds_at(alloc: Global, job: &Job, world: World) -> Result<bool, Mem>
+    requires in_range { IsInRange job.now.range world }
+    ensures { IfOk result (λ yes. yes ≡ is_true_at job.now world) }
+{
+    match truth_over(alloc, &mut Narrow::new(world), job) {
+        Ok(answer) => Ok(answer),
+        Err(Halt::Mem) => Err(Mem),
+        Err(_) => exactly_at(alloc, job, world),
     }
 }
 

@@ -17,7 +17,7 @@ use viz_base::{Job, Mem};
 /// leaf is kept only where so it is, and where the checker would accept it below lemmas that are derived. The only
 /// fault is want of memory.
 ///
-/// Each leaf takes one layout of the page, and so does each world of a grid's path.
+/// Each leaf takes one layout of the page, and so does each world of a grid's path, or two.
 pub fn pieces(alloc: Global, job: &Job, cert: &Cert) -> Result<Kept, Mem>
     requires few { node_count cert.now.root + axis_count job.now.form < 2 ^ 32 }
     ensures { IfOk result (ArePieces job.now cert.now) }
