@@ -95,11 +95,6 @@ impl<'a> Finder<'a> {
         self.footing.alloc()
     }
 
-    /// The height of the viewport in 1/64 px: that of its variable, or the one that there is.
-    pub fn height(&self) -> Result<Row, Mem> {
-        self.footing.height_row()
-    }
-
     /// How many floors there are behind those of the path. The variable of each has a number of 32 bits.
     fn floor_count(&self) -> u32 {
         u32::try_from(self.floors.len()).unwrap_or(u32::MAX)
@@ -169,21 +164,16 @@ impl<'a> Finder<'a> {
         }
     }
 
-    /// Whether a row is at most another.
-    pub fn is_at_most(&mut self, row: &Row, most: &Row) -> Result<bool, Trouble> {
-        let difference = most.add_scaled(-1, row)?;
-        if difference.terms.is_empty() {
-            return Ok(0 <= difference.k);
+    /// Whether a row is at least 0.
+    pub fn is_reached(&mut self, row: Row) -> Result<bool, Trouble> {
+        if row.terms.is_empty() {
+            return Ok(0 <= row.k);
         }
-        self.answer(Floor {
-            row: difference,
-            by: 1,
-        })
+        self.answer(Floor { row, by: 1 })
     }
 
     /// The same, but what was told before is not written once more.
-    pub fn is_told_at_most(&mut self, row: &Row, most: &Row) -> Result<bool, Trouble> {
-        let row = most.add_scaled(-1, row)?;
+    pub fn is_told_reached(&mut self, row: Row) -> Result<bool, Trouble> {
         if row.terms.is_empty() {
             return Ok(0 <= row.k);
         }

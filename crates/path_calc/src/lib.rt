@@ -6,6 +6,7 @@ mod cones;
 mod digests;
 mod finder;
 mod footing;
+mod numbers;
 mod pool;
 mod renumbering;
 mod seeker;

@@ -2,12 +2,12 @@ ghost use Rattle.path_calc.specs.steps.Seekers.{seeker_state, number_at};
 
 use crate::finder::{Finder, Opening};
 use crate::footing::Footing;
+use crate::numbers::{HEIGHT, NOTHING, Number, Numbers, SIZE, Scaling, WIDTH};
 use crate::pool::Pool;
 use crate::trail::Found;
 use crate::trouble::Trouble;
-use cert_path::variable_of;
 use lin_proof::{Answer, Row};
-use viz_base::{Axis, List, Mem};
+use viz_base::{List, Mem};
 use viz_calc::{Calc, Halt};
 
 /// Arithmetic at all worlds of a path at once, over the same rows as those of `Sym`. It answers comparisons itself, and
@@ -16,6 +16,7 @@ use viz_calc::{Calc, Halt};
 #[derive(Drop)]
 pub struct Seeker<'a> {
     finder: Finder<'a>,
+    numbers: Numbers,
     /// Whether a mistake of the search ended the run.
     is_lost: bool,
     coeffs: u64,
@@ -23,7 +24,7 @@ pub struct Seeker<'a> {
 }
 
 impl<'a> Seeker<'a> {
-    ghost use Rattle.std.specs.Prelude.{◌≡◌, ⊤, IfErr};
+    ghost use Rattle.std.specs.Prelude.{◌≡◌, ◌≤◌, ⊤, IfErr};
     ghost use Rattle.viz_base.specs.Numbers.{Rose};
     ghost use Rattle.viz_calc.specs.State.{Grows, Cause, IsDecided};
 
@@ -33,24 +34,47 @@ impl<'a> Seeker<'a> {
         pool: &'a mut Pool,
         found: &'a mut Vec<Found>,
     ) -> Result<Self, Mem> {
+        let numbers = Numbers::new(footing)?;
         Ok(Seeker {
             finder: Finder::new(footing, pool, found)?,
+            numbers,
             is_lost: false,
             coeffs: 0,
             opens: 0,
         })
     }
 
-    /// The row, or the halt for which there is none.
-    fn counted(&mut self, given: Result<Row, Trouble>) -> Result<Row, Halt>
+    /// The number of a row, or the halt for which there is none.
+    fn counted(&mut self, given: Result<Row, Trouble>) -> Result<Number, Halt>
         ensures grows { Grows (seeker_state self.old.coeffs self.old.opens)
             (seeker_state self.new.coeffs self.new.opens) }
         ensures cause { IfErr result (Cause (seeker_state self.old.coeffs self.old.opens)
             (seeker_state self.new.coeffs self.new.opens) ⊤) }
         ensures decided { IsDecided result }
     {
-        match given {
-            Ok(row) => Ok(row),
+        match self.numbers.keep(given) {
+            Ok(number) => Ok(number),
+            Err(Trouble::Mem) => Err(Halt::Mem),
+            Err(trouble) => Err(self.too_large(trouble)),
+        }
+    }
+
+    /// What a scaling that was not asked before gives, or the halt for which there is nothing.
+    fn scaled_anew(&mut self, scaling: Scaling) -> Result<Number, Halt>
+        requires { 1 ≤ scaling.den }
+        ensures grows { Grows (seeker_state self.old.coeffs self.old.opens)
+            (seeker_state self.new.coeffs self.new.opens) }
+        ensures cause { IfErr result (Cause (seeker_state self.old.coeffs self.old.opens)
+            (seeker_state self.new.coeffs self.new.opens) ⊤) }
+        ensures decided { IsDecided result }
+    {
+        let Scaling { number, num, den } = scaling;
+        let quotient = match self.numbers.row(number) {
+            Ok(row) => self.finder.scaled(row, i128::from(num), i128::from(den)),
+            Err(trouble) => Err(trouble),
+        };
+        match self.numbers.keep_scaled(scaling, quotient) {
+            Ok(number) => Ok(number),
             Err(Trouble::Mem) => Err(Halt::Mem),
             Err(trouble) => Err(self.too_large(trouble)),
         }
@@ -107,7 +131,7 @@ impl<'a> Calc for Seeker<'a> {
     ghost use Rattle.std.specs.Prelude.{true};
     ghost use Rattle.std.proofs.lemmas.Bool.{false≢true};
 
-    type Num = Row;
+    type Num = Number;
 
     ghost state = { λ s. seeker_state s.coeffs s.opens };
 
@@ -115,59 +139,71 @@ impl<'a> Calc for Seeker<'a> {
 
     ghost counts = { true };
 
-    fn blank(&self) -> Row {
-        Row::constant(self.finder.alloc(), 0)
+    fn blank(&self) -> Number {
+        NOTHING
     }
 
-    fn lit(&mut self, v: i128) -> Result<Row, Halt> {
-        Ok(Row::constant(self.finder.alloc(), v))
+    fn lit(&mut self, v: i128) -> Result<Number, Halt> {
+        if v == 0 {
+            return Ok(NOTHING);
+        }
+        let row = Row::constant(self.finder.alloc(), v);
+        self.counted(Ok(row))
     }
 
-    fn width(&mut self) -> Result<Row, Halt> {
-        Ok(Row::of_term(self.finder.alloc(), 0, variable_of(Axis::Width), 64)?)
+    fn width(&mut self) -> Result<Number, Halt> {
+        Ok(WIDTH)
     }
 
-    fn size(&mut self) -> Result<Row, Halt> {
-        Ok(Row::of_term(self.finder.alloc(), 0, variable_of(Axis::Size), 64)?)
+    fn size(&mut self) -> Result<Number, Halt> {
+        Ok(SIZE)
     }
 
-    fn height(&mut self) -> Result<Row, Halt> {
-        Ok(self.finder.height()?)
+    fn height(&mut self) -> Result<Number, Halt> {
+        Ok(HEIGHT)
     }
 
-    fn copy(&mut self, a: &Row) -> Result<Row, Halt> {
-        Ok(a.clone()?)
+    fn copy(&mut self, a: &Number) -> Result<Number, Halt> {
+        Ok(*a)
     }
 
-    fn add(&mut self, a: &Row, b: &Row) -> Result<Row, Halt> {
-        let sum = plus_times(a, 1, b);
+    fn add(&mut self, a: &Number, b: &Number) -> Result<Number, Halt> {
+        let sum = self.numbers.plus_times(*a, 1, *b);
         self.counted(sum)
     }
 
-    fn sub(&mut self, a: &Row, b: &Row) -> Result<Row, Halt> {
-        let difference = plus_times(a, -1, b);
+    fn sub(&mut self, a: &Number, b: &Number) -> Result<Number, Halt> {
+        let difference = self.numbers.plus_times(*a, -1, *b);
         self.counted(difference)
     }
 
-    fn scale_floor(&mut self, a: &Row, num: i64, den: u64) -> Result<Row, Halt> {
-        let quotient = self.finder.scaled(a, i128::from(num), i128::from(den));
-        self.counted(quotient)
+    fn scale_floor(&mut self, a: &Number, num: i64, den: u64) -> Result<Number, Halt> {
+        let scaling = Scaling {
+            number: *a,
+            num,
+            den,
+        };
+        match self.numbers.scaled(scaling) {
+            Some(number) => Ok(number),
+            None => self.scaled_anew(scaling),
+        }
     }
 
-    fn le(&mut self, a: &Row, b: &Row) -> Result<bool, Halt> {
-        let yes = self.finder.is_at_most(a, b);
+    fn le(&mut self, a: &Number, b: &Number) -> Result<bool, Halt> {
+        let yes = match self.numbers.plus_times(*b, -1, *a) {
+            Ok(difference) => self.finder.is_reached(difference),
+            Err(trouble) => Err(trouble),
+        };
         self.answered(yes)
     }
 
-    fn at_most(&mut self, a: &Row, b: &Row) -> Result<bool, Halt> {
-        let yes = self.finder.is_told_at_most(a, b);
+    fn at_most(&mut self, a: &Number, b: &Number) -> Result<bool, Halt> {
+        let yes = match self.numbers.plus_times(*b, -1, *a) {
+            Ok(difference) => self.finder.is_told_reached(difference),
+            Err(trouble) => Err(trouble),
+        };
         self.answered(yes)
     }
 
     ghost keeps = { λ s w t. absurd (false≢true t) };
-}
-
-/// A row plus a multiple of another.
-fn plus_times(row: &Row, times: i128, other: &Row) -> Result<Row, Trouble> {
-    Ok(row.add_scaled(times, other)?)
 }

@@ -1,7 +1,7 @@
 use Rattle.std.specs.Prelude.{ℕ, ℤ, pos, false}
 use Rattle.viz_calc.specs.World.{Reading}
 use Rattle.viz_calc.specs.State.{State}
-use Rattle.lin_proof.specs.Form.{Form}
+use Rattle.path_calc.specs.declared.numbers.Number.{Number}
 
 -- no reading is open, and no world is kept
 abbrev pub seeker_state : ℕ → ℕ → State
@@ -14,5 +14,5 @@ seeker_state coeffs opens = record {
 }
 
 -- what a number is at a reading: none is open, so any value serves
-abbrev pub number_at : Form → Reading → ℤ
+abbrev pub number_at : Number → Reading → ℤ
 number_at _ _ = pos 0
