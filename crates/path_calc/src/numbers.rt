@@ -2,7 +2,7 @@ use crate::footing::Footing;
 use crate::trouble::Trouble;
 use cert_path::variable_of;
 use indexmap::IndexMap;
-use lin_row::Row;
+use lin_proof::Row;
 use std::alloc::Global;
 use viz_base::{Axis, List, Mem};
 

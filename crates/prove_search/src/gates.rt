@@ -75,9 +75,9 @@ fn is_grid_of_few(job: &Job, cert: &Cert) -> bool
     world_count(job.range) > MOST_WORLDS || matches!(cert.root, CertNode::Grid)
 }
 
-/// The text of a certificate within bounds: it has one of at most `most` bytes and 64 MiB, and at most as many grids and
-/// leaves as turns, is one grid for a range of at most 64 worlds, and is of form 2 exactly where it has lemmas. The only
-/// fault is want of memory.
+/// The text of a certificate within bounds: it has one of at most `most` bytes and 64 MiB, and at most as many grids
+/// and leaves as turns, is one grid for a range of at most 64 worlds, and is of form 2 exactly where it has lemmas. The
+/// only fault is want of memory.
 fn text_within(
     alloc: Global,
     job: &Job,

@@ -124,14 +124,19 @@ fn certificate(digest: &[u8; 32], root: CertNode) -> Cert
 ///
 /// A turn takes one part of the range that is open yet, the whole range first. A part of at most 64 worlds
 /// is gone through, a greater one is halved on a longest side. With R worlds in the range,
-/// `2 * R - 1` turns decide, and one does where R is at most 64. With none the whole range is open. Each world takes
-/// at most one layout of the page and one truth of the formula. The only fault is want of memory.
+/// `2 * R - 1` turns decide, and one does where R is at most 64. With less than a turn for each 64 worlds the whole
+/// range is open, and nothing is gone through. Each world takes at most two layouts of the page and two
+/// truths of the formula. The only fault is want of memory.
 pub fn prove_plainly(alloc: Global, job: &Job, turns: u64) -> Result<Outcome, Mem>
     ensures outcome { IfOk result (IsOutcome job.now turns plain_most) }
     ensures decides { IfOk result
         (λ outcome. 2 * world_count job.now.range ≤ turns + 1 → Decides outcome (Holds job.now)) }
     ensures unturned { turns ≡ 0 → IfOk result (λ outcome. outcome ≡ Undecided job.now.range) }
 {
+    // So few turns never come to an end, and a turn takes as long as 64 layouts.
+    if world_count(job.range) > MOST_WORLDS.saturating_mul(turns) {
+        return Ok(Outcome::Undecided(job.range));
+    }
     match decide(alloc, job, job.range, turns) {
         Ok(closed) => {
             let cert = certificate(&job.digest, closed.node);
