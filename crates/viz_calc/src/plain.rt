@@ -58,8 +58,20 @@ fn difference(a: i128, b: i128) -> Result<i128, Halt>
     }
 }
 
-/// `a * num / den`, rounded down, if it fits.
-fn scaled(a: i128, num: i64, den: u64) -> Result<i128, Halt>
+/// A quotient, rounded down.
+fn quotient(number: i128, den: u64) -> i128
+    requires { 1 ≤ den }
+    ensures { result ≡ int_div_euclid number (pos den) }
+{
+    // Nearly all numbers of a page have 64 bits, and a processor divides these at once.
+    match (i64::try_from(number), i64::try_from(den)) {
+        (Ok(number), Ok(den)) => i128::from(number.div_euclid(den)),
+        _ => number.div_euclid(i128::from(den)),
+    }
+}
+
+/// `a * num / den`, rounded down, if it fits, by the parts of `a` so that the product need not fit.
+fn scaled_by_parts(a: i128, num: i64, den: u64) -> Result<i128, Halt>
     requires { 1 ≤ den }
     ensures { result ≡ fitted (int_div_euclid (num *ℤ a) (pos den)) }
 {
@@ -70,6 +82,17 @@ fn scaled(a: i128, num: i64, den: u64) -> Result<i128, Halt>
     match num.checked_mul(whole) {
         Some(product) => sum(product, rest),
         None => Err(Halt::Coeff),
+    }
+}
+
+/// `a * num / den`, rounded down, if it fits.
+fn scaled(a: i128, num: i64, den: u64) -> Result<i128, Halt>
+    requires { 1 ≤ den }
+    ensures { result ≡ fitted (int_div_euclid (num *ℤ a) (pos den)) }
+{
+    match i128::from(num).checked_mul(a) {
+        Some(product) => fit(quotient(product, den)),
+        None => scaled_by_parts(a, num, den),
     }
 }
 

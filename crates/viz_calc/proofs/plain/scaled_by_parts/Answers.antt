@@ -6,7 +6,7 @@ use mir.Syntax.{w128}
 use Rattle.viz_calc.specs.Plain.{fitted}
 use Rattle.viz_calc.proofs.PlainLemmas.{fitted_past}
 use Rattle.viz_calc.proofs.Floors.{div-product, part_small, not_fits}
-use Rattle.viz_calc.proofs.plain.scaled.Goals as goal
+use Rattle.viz_calc.proofs.plain.scaled_by_parts.Goals as goal
 
 pub returns-in-Some : goal.returns-in-Some
 returns-in-Some c =
