@@ -48,6 +48,10 @@ fn default_part<S: Steady>(calc: &mut S, num: i64, den: u64) -> S::Num
         (λ e. AllSmall (default_size e.world.s ∷ fraction num den (default_size e.world.s) ∷ [])) }
 {
     let size = calc.size();
+    // The root's is the whole, and each word of a page asks for it.
+    if num == 1 && den == 1 {
+        return size;
+    }
     calc.scale_floor(&size, num, den)
 }
 
