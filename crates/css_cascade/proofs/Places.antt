@@ -3,7 +3,7 @@ use Rattle.std.proofs.Common.{◌≡◌, ℕ, ◌<◌, ◌≤◌, List, [], ◌�
 use Rattle.std.proofs.lemmas.Bool.{cases_lt}
 use Rattle.std.proofs.lemmas.Option.{same_Some, slice_get_within}
 use Rattle.viz_base.proofs.ListLemmas.{get_before}
-use Rattle.css_semantics.proofs.Hiding.{get_last}
+use Rattle.viz_base.proofs.ListLemmas.{get_last}
 
 -- what stands at a place of the longer list
 pub at_or_last : {A : Type 0} (xs : List A) (x y : A) (n i : ℕ) → length xs ≡ n → slice_get (xs ++ x ∷ []) i ≡ Some y → ((i < n) × (slice_get xs i ≡ Some y)) ⊎ ((i ≡ n) × (x ≡ y))

@@ -13,7 +13,7 @@ use Rattle.viz_base.specs.declared.settings.Prop.TheVariants as of_prop
 use Rattle.viz_base.specs.declared.settings.Setting.{Setting}
 use Rattle.viz_base.specs.declared.settings.Value.{Value}
 use Rattle.viz_base.proofs.Truths.{by_bool}
-use Rattle.viz_base.proofs.ListLemmas.{get_before}
+use Rattle.viz_base.proofs.ListLemmas.{get_before, get_last}
 use Rattle.css_semantics.specs.declared.claims.Claim.{Claim}
 use Rattle.css_semantics.specs.declared.claims.Ruleset.{Ruleset}
 use Rattle.css_semantics.specs.declared.claims.Standing.{Standing}
@@ -69,10 +69,6 @@ node_hides : {nodes : List Node} {rulesets : List Ruleset} {standings : List Sta
 node_hides {standings = standings} {node = node} (comes_to {all = all} applied) = judged_hides _ (standing_around standings node.parent) (winners_of all)
 
 -- ---- one more item
-
-pub get_last : {A : Type 0} (xs : List A) (x : A) → slice_get (xs ++ x ∷ []) (length xs) ≡ Some x
-get_last [] x = refl
-get_last (y ∷ xs) x = get_last xs x
 
 -- ---- parents stand before
 

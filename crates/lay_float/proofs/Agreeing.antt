@@ -5,7 +5,7 @@ use Rattle.std.proofs.lemmas.List.{length-append}
 use Rattle.viz_base.specs.declared.layouts.Band.{Band}
 use Rattle.viz_base.specs.declared.layouts.Extent.{Extent}
 use Rattle.viz_base.specs.declared.styles.Side.{Side}
-use Rattle.viz_base.proofs.ListLemmas.{slice_some}
+use Rattle.viz_base.proofs.ListLemmas.{slice_some, get_last}
 use Rattle.viz_calc.specs.World.{Reading}
 use Rattle.viz_calc.specs.State.{State, Grows}
 use Rattle.viz_calc.specs.Run.{Run, Goes, unless}
@@ -42,15 +42,11 @@ pub agreed : {A N : Type 0} (at : N → Reading → ℤ) (r : Result A Halt) (ol
 agreed at (Ok x) old new before after kept as_before grows agree = kept
 agreed at (Err h) old new before after kept as_before grows agree = subst (Agree at new.is_open) (sym as_before) (λ e o. agree e (grows.closes e o))
 
-at-end : {A : Type 0} (xs : List A) (x : A) → slice_get (xs ++ x ∷ []) (length xs) ≡ Some x
-at-end [] x = refl
-at-end (z ∷ xs) x = at-end xs x
-
 last-is : {A : Type 0} (xs : List A) (x y : A) → slice_get (xs ++ x ∷ []) (length (xs ++ x ∷ []) - 1) ≡ Some y → x ≡ y
 last-is xs x y e =
     let all = length-append xs (x ∷ []) in
     let count : length (xs ++ x ∷ []) - 1 ≡ length xs = omega (arith, all) in
-    let both : Some x ≡ Some y = sym (at-end xs x) ∙ ap (slice_get (xs ++ x ∷ [])) (sym count) ∙ e in
+    let both : Some x ≡ Some y = sym (get_last xs x) ∙ ap (slice_get (xs ++ x ∷ [])) (sym count) ∙ e in
     cc
 
 -- with one float more, at whose top so many have ended

@@ -25,6 +25,11 @@ get_before [] ys k l = absurd (omega (arith, l))
 get_before (x ∷ xs) ys zero l = refl
 get_before (x ∷ xs) ys (suc k) l = get_before xs ys k (omega (arith, l))
 
+-- what stands behind a list is its last
+pub get_last : {A : Type 0} (xs : List A) (x : A) → slice_get (xs ++ x ∷ []) (length xs) ≡ Some x
+get_last [] x = refl
+get_last (y ∷ xs) x = get_last xs x
+
 -- a list from a place on begins with what stands there
 pub drop_at : {A : Type 0} (xs : List A) (k : ℕ) (x : A) → k < length xs → x ≡ get_or xs k x → drop k xs ≡ x ∷ drop (k + 1) xs
 drop_at xs k x l e = drop_more xs k x l ∙ ap (λ y. y ∷ drop (k + 1) xs) (sym e)
