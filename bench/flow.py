@@ -7,8 +7,9 @@
 - 29 and 58 floats, each in the one before, as deep as a page may be: at most the square within noise (below 8);
 - 100 and 400 floats of one block formatting context: at most the square of the count within noise (below 32);
 - a paragraph of 512 and 4,096 words: at most linear within noise (below 10);
-- 500 and 2,000 floats of no height, each before a paragraph of no height with `clear`, whose margins all adjoin: at most the square of
-  the count within noise (below 32), since each paragraph tries the floats before it.
+- 500 and 2,000 floats, each before a paragraph of no height with `clear`, whose margins all adjoin, where the floats have no height and
+  where they all stay open: at most the square of the count within noise (below 32), since each float is tried once beside those
+  before it.
 
 Run it at the top: bench/flow.py [PROGRAM]
 """
@@ -74,8 +75,8 @@ def many_floats(count):
     return [element("div", f"float:{sides[at % 5]};width:{20 + at * 37 % 90}px;height:{10 + at * 53 % 70}px") for at in range(count)]
 
 
-def waiting_floats(count):
-    pair = [element("div", "float:left;height:0"), element("p", "margin:1px 0;clear:left")]
+def waiting_floats(count, style="float:left;height:0"):
+    pair = [element("div", style), element("p", "margin:1px 0;clear:left")]
     return pair * count
 
 
@@ -123,6 +124,8 @@ def main():
         growth("words", counts, [pages.lay(paragraph(count)) for count in counts], 10)
         counts = (500, 2000)
         growth("waiting floats", counts, [pages.lay(waiting_floats(count)) for count in counts], 32)
+        still_open = "float:right;width:0;height:9px"
+        growth("open ones", counts, [pages.lay(waiting_floats(count, still_open)) for count in counts], 32)
 
 
 main()

@@ -34,3 +34,4 @@ pub mod WalkPlaces
 pub mod BoxesFit
 pub mod LinesFitting
 pub mod PageLimits
+pub mod Tried

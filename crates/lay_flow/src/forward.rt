@@ -1,32 +1,35 @@
 //! The margins that adjoin the top of a box that comes next, up to the first box that is cleared (CSS 2.1, 8.3.1,
 //! 9.5.2).
-ghost use Rattle.std.specs.Prelude.{◌≡◌, ◌<◌, ◌++◌, ◌∷◌, [], ⊤, ℕ, ℤ, length, slice_index_or, int_lt, false};
+ghost use Rattle.std.specs.Prelude.{◌≡◌, ◌<◌, ◌++◌, ◌∷◌, [], ⊤, ℕ, ℤ, length, slice_index_or, int_lt, int_le};
+ghost use Rattle.std.specs.Prelude.{◌&&◌, false, IfSome, Some};
 ghost use Rattle.std.specs.Option.{option_map_or};
 ghost use Rattle.viz_calc.specs.World.{Reading};
-ghost use Rattle.viz_calc.specs.State.{AllSmall};
-ghost use Rattle.viz_calc.specs.Run.{Lays, LaysButMem};
+ghost use Rattle.viz_calc.specs.State.{AllSmall, WhereOpen};
+ghost use Rattle.viz_calc.specs.Run.{Goes, Blames, Lays, LaysButMem};
 ghost use Rattle.viz_calc.specs.Renderings.{band_at};
-ghost use Rattle.layout_semantics.specs.Floats.{floating};
+ghost use Rattle.layout_semantics.specs.Floats.{floating, lowest_bottom};
 ghost use Rattle.layout_semantics.specs.FlowBoxes.{clear_of, flow_children};
+ghost use Rattle.lay_float.specs.Limits.{AreHalf};
 ghost use Rattle.lay_float.specs.Readings.{boxes_at as floats_in, extent_at, option_at};
 ghost use Rattle.lay_float.specs.TrialReadings.{coming_at, trial_at};
 ghost use Rattle.lay_margin.specs.Fitting.{edges};
 ghost use Rattle.lay_margin.specs.Readings.{floats_at as waiting_all, waiting_at as waiting_one};
 ghost use Rattle.lay_margin.specs.Runs.{run_at};
 ghost use Rattle.flow_steps.specs.Runs.{edge_at};
-ghost use Rattle.flow_steps.specs.Forward.{hypothetical_edge as hypothetical_of, bottom_to_clear as bottom_of};
+ghost use Rattle.flow_steps.specs.Forward.{hypothetical_edge as hypothetical_of};
 ghost use Rattle.flow_steps.specs.Forward.{is_to_clear as to_clear_of, clear_edge as clear_edge_of};
 ghost use Rattle.flow_steps.specs.Forward.{decided as decided_of};
 ghost use Rattle.flow_steps.specs.Flow.{size_in};
 ghost use Rattle.lay_flow.specs.Low.{IsBaseLow, IsRunLow};
 ghost use Rattle.lay_flow.specs.Readings.{apart_at, base_at, found_at};
 ghost use Rattle.lay_flow.specs.WayFits.{IsLeadLow, WaitingFits, IsGroundLow, IsGoingLow};
-ghost use Rattle.lay_flow.specs.Tries.{TrialFits, first_trial, next_trial, other_trials};
+ghost use Rattle.lay_flow.specs.Tries.{TrialFits, first_trial, next_trial, other_trials, trial_of, floats_with};
 ghost use Rattle.lay_flow.specs.Ways.{ground_at, way_at, inner_at, kids_at_reading, kid_at, closed_end};
-ghost use Rattle.lay_flow.specs.Ways.{DecisionFitsAt, WayFitsAt, KidsFitAt, KidFitsAt};
+ghost use Rattle.lay_flow.specs.Ways.{DecisionFitsAt, WayFitsAt, KidsFitAt, KidFitsAt, WaitingFitsAt};
+ghost use Rattle.lay_flow.specs.Ways.{AreTried, trials_at, Keeps, GoesForward};
 
 use crate::floating::size_of;
-use crate::parts::{Base, Cleared, End, Going, Page};
+use crate::parts::{Base, Cleared, End, Going, Page, Tries};
 use lay_float::PlacedFloat;
 use lay_float::engine::bottom;
 use lay_float::trial::{Coming, Trial, begin, go_on};
@@ -188,31 +191,111 @@ fn try_others<S: Steady>(
     trial
 }
 
-#[tactic(auto, unfolding(flow_steps::specs::Forward::bottom_to_clear))]
-/// The lowest bottom that a box is to clear, the floats that wait being placed at y.
-fn bottom_to_clear<S: Steady>(
+/// Tries all floats that wait, where the run of margins ends at y.
+fn try_all<S: Steady>(
     alloc: Global,
     calc: &mut S,
     way: &Way<'_, S::Num>,
-    b: u32,
     waiting: &[Waiting<S::Num>],
     y: &S::Num,
-) -> Option<S::Num>
-    ensures { LaysButMem S.run calc.old calc.new (option_at S.at result)
-        (λ e. bottom_of (ground_at S.at way.now e) b (waiting_all S.at waiting.now e)
-        (S.at y.now e)) (λ e. WaitingFits (size_in (apart_at S.at way.now.page.now.apart.now e))
-        (floats_in S.at way.now.floats.now e) (option_at S.at way.now.least.now e) (S.at y.now e)
-        (waiting_all S.at waiting.now e)) }
+) -> Option<Trial<S::Num>>
+    ensures { LaysButMem S.run calc.old calc.new (trials_at S.at result)
+        (λ e. trial_of (ground_at S.at way.now e) (S.at y.now e) (waiting_all S.at waiting.now e))
+        (λ e. WaitingFitsAt S.at way.now e (S.at y.now e) (waiting_all S.at waiting.now e)) }
 {
-    let clear = clear_in_flow(way.page.tree, b);
     match waiting.split_first() {
         // Without floats that wait the context's own list will do, and none is copied.
-        None => bottom(calc, way.floats, clear),
+        None => None,
         Some((first, others)) => {
             let trial = try_first(alloc, calc, way, first, y);
-            let trial = try_others(alloc, calc, way, others, trial);
-            bottom(calc, trial.all.placed.as_slice(), clear)
+            Some(try_others(alloc, calc, way, others, trial))
         }
+    }
+}
+
+/// Where no more floats than these were tried, they are tried again: to compare where they would stand costs more, and
+/// may be one more answer in a certificate.
+const MANY: usize = 16;
+
+/// Whether two numbers are the same.
+fn is_same<S: Steady>(calc: &mut S, a: &S::Num, b: &S::Num) -> bool
+    ensures { Lays S.run calc.old calc.new (λ e. result)
+        (λ e. int_le (S.at a.now e) (S.at b.now e) && int_le (S.at b.now e) (S.at a.now e)) (λ e. ⊤) }
+{
+    calc.le(a, b) && calc.le(b, a)
+}
+
+/// What was tried, if it was at y and many floats were.
+fn tried_at<S: Steady>(
+    calc: &mut S,
+    tries: Option<Tries<S::Num>>,
+    y: &S::Num,
+) -> Option<Tries<S::Num>>
+    ensures goes { Goes (S.run calc.old) (S.run calc.new) }
+    ensures value { WhereOpen (S.run calc.new).is_open
+        (λ e. IfSome result (λ t. (tries ≡ Some t) × (S.at t.y e ≡ S.at y.now e))) }
+    ensures cause { Blames (S.run calc.old) (S.run calc.new) ⊤ }
+{
+    let tries = tries?;
+    if tries.count <= MANY {
+        return None;
+    }
+    if is_same(calc, &tries.y, y) {
+        Some(tries)
+    } else {
+        None
+    }
+}
+
+/// Tries all floats that wait, where the run of margins ends at y; those that were tried there before are not tried
+/// again.
+fn try_on<S: Steady>(
+    alloc: Global,
+    calc: &mut S,
+    way: &Way<'_, S::Num>,
+    waiting: &[Waiting<S::Num>],
+    y: &S::Num,
+    tries: Option<Tries<S::Num>>,
+) -> Option<Trial<S::Num>>
+    requires { WhereOpen (S.run calc.old).is_open
+        (λ e. AreTried S.at way.now e (waiting_all S.at waiting.now e) tries) }
+    ensures { LaysButMem S.run calc.old calc.new (trials_at S.at result)
+        (λ e. trial_of (ground_at S.at way.now e) (S.at y.now e) (waiting_all S.at waiting.now e))
+        (λ e. WaitingFitsAt S.at way.now e (S.at y.now e) (waiting_all S.at waiting.now e)) }
+{
+    let Some(tries) = tried_at(calc, tries, y) else {
+        return try_all(alloc, calc, way, waiting, y);
+    };
+    let (_, others) = waiting.split_at_checked(tries.count)?;
+    Some(try_others(alloc, calc, way, others, tries.trial))
+}
+
+/// What is kept of a trial of all floats that wait.
+fn kept<N: Drop>(y: N, count: usize, trial: Option<Trial<N>>) -> Option<Tries<N>>
+    ensures { IfSome result (λ t. (t.y ≡ y) × (t.count ≡ count) × (trial ≡ Some t.trial)) }
+{
+    match trial {
+        Some(trial) => Some(Tries { y, count, trial }),
+        None => None,
+    }
+}
+
+/// The lowest bottom that a box is to clear, the floats that wait being tried.
+fn lowest<S: Steady>(
+    calc: &mut S,
+    way: &Way<'_, S::Num>,
+    b: u32,
+    trial: &Option<Trial<S::Num>>,
+) -> Option<S::Num>
+    ensures { Lays S.run calc.old calc.new (option_at S.at result)
+        (λ e. lowest_bottom (clear_of way.now.page.now.tree.now b)
+        (floats_with (ground_at S.at way.now e) (trials_at S.at trial.now e)))
+        (λ e. AreHalf (floats_with (ground_at S.at way.now e) (trials_at S.at trial.now e)) []) }
+{
+    let clear = clear_in_flow(way.page.tree, b);
+    match trial {
+        None => bottom(calc, way.floats, clear),
+        Some(trial) => bottom(calc, trial.all.placed.as_slice(), clear),
     }
 }
 
@@ -234,18 +317,26 @@ fn is_to_clear<S: Steady>(
     way: &Way<'_, S::Num>,
     cb: &Band<S::Num>,
     b: u32,
-    going: &Going<S::Num>,
+    going: &mut Going<S::Num>,
 ) -> bool
-    requires { b < length way.now.page.now.tree.now.boxes }
-    ensures { LaysButMem S.run calc.old calc.new (λ e. result)
-        (λ e. to_clear_of (ground_at S.at way.now e) (band_at S.at cb.now e) b
-        (run_at S.at going.now.run e) (waiting_all S.at going.now.waiting e))
-        (λ e. DecisionFitsAt S.at way.now e (band_at S.at cb.now e) b (run_at S.at going.now.run e)
-        (waiting_all S.at going.now.waiting e)) }
+    requires within { b < length way.now.page.now.tree.now.boxes }
+    requires keeps { Keeps S.at way.now (S.run calc.old) going.old }
+    ensures forward { GoesForward S.at way.now S.run calc.old calc.new going.new (λ e. result)
+        (λ e. to_clear_of (ground_at S.at way.now e) (band_at S.at cb.now e) b (run_at S.at going.old.run e)
+        (waiting_all S.at going.old.waiting e))
+        (λ e. DecisionFitsAt S.at way.now e (band_at S.at cb.now e) b (run_at S.at going.old.run e)
+        (waiting_all S.at going.old.waiting e)) }
+    ensures run { going.new.run ≡ going.old.run }
+    ensures waiting { going.new.waiting ≡ going.old.waiting }
 {
     let y = hypothetical_edge(alloc, calc, way, cb, b, &going.run);
-    let bottom = bottom_to_clear(alloc, calc, way, b, going.waiting.as_slice(), &y);
-    is_above(calc, &y, &bottom)
+    let before = going.tries.take();
+    let waiting = going.waiting.as_slice();
+    let trial = try_on(alloc, calc, way, waiting, &y, before);
+    let bottom = lowest(calc, way, b, &trial);
+    let above = is_above(calc, &y, &bottom);
+    going.tries = kept(y, waiting.len(), trial);
+    above
 }
 
 /// The border edge of a cleared box: the lowest bottom that it is to clear.
@@ -265,7 +356,8 @@ fn clear_edge<S: Steady>(
         (run_at S.at going.now.run e) (waiting_all S.at going.now.waiting e)) }
 {
     let y = edge(calc, way.base, &going.run);
-    match bottom_to_clear(alloc, calc, way, b, going.waiting.as_slice(), &y) {
+    let trial = try_all(alloc, calc, way, going.waiting.as_slice(), &y);
+    match lowest(calc, way, b, &trial) {
         Some(bottom) => bottom,
         None => y,
     }
@@ -278,14 +370,17 @@ fn decided<S: Steady>(
     way: &Way<'_, S::Num>,
     cb: &Band<S::Num>,
     b: u32,
-    going: &Going<S::Num>,
+    going: &mut Going<S::Num>,
 ) -> Option<S::Num>
-    requires { b < length way.now.page.now.tree.now.boxes }
-    ensures { LaysButMem S.run calc.old calc.new (option_at S.at result)
-        (λ e. decided_of (ground_at S.at way.now e) (band_at S.at cb.now e) b
-        (run_at S.at going.now.run e) (waiting_all S.at going.now.waiting e))
-        (λ e. DecisionFitsAt S.at way.now e (band_at S.at cb.now e) b (run_at S.at going.now.run e)
-        (waiting_all S.at going.now.waiting e)) }
+    requires within { b < length way.now.page.now.tree.now.boxes }
+    requires keeps { Keeps S.at way.now (S.run calc.old) going.old }
+    ensures forward { GoesForward S.at way.now S.run calc.old calc.new going.new (option_at S.at result)
+        (λ e. decided_of (ground_at S.at way.now e) (band_at S.at cb.now e) b (run_at S.at going.old.run e)
+        (waiting_all S.at going.old.waiting e))
+        (λ e. DecisionFitsAt S.at way.now e (band_at S.at cb.now e) b (run_at S.at going.old.run e)
+        (waiting_all S.at going.old.waiting e)) }
+    ensures run { going.new.run ≡ going.old.run }
+    ensures waiting { going.new.waiting ≡ going.old.waiting }
 {
     // With no float there is nothing to clear, and no edge to compare: a certificate needs no answer here.
     if way.floats.is_empty() && going.waiting.is_empty() {
@@ -311,7 +406,6 @@ fn wait<S: Steady>(calc: &mut S, cb: &Band<S::Num>, at: u32, waiting: &mut List<
     }
 }
 
-#[cycle(forward)]
 /// Goes forward from a box: joins the margins that adjoin its top to the run, lets the floats between them wait, and
 /// ends at the first box that is cleared.
 pub fn forward<S: Steady>(
@@ -329,6 +423,28 @@ pub fn forward<S: Steady>(
         (λ e. WayFitsAt S.at way.now e (band_at S.at cb.now e) b (run_at S.at going.old.run e)
         (waiting_all S.at going.old.waiting e)) }
 {
+    going.tries = None;
+    onward(alloc, calc, way, cb, b, going)
+}
+
+#[cycle(onward)]
+/// The same, where floats may have been tried.
+fn onward<S: Steady>(
+    alloc: Global,
+    calc: &mut S,
+    way: &Way<'_, S::Num>,
+    cb: &Band<S::Num>,
+    b: u32,
+    going: &mut Going<S::Num>,
+) -> End<S::Num>
+    requires within { b < length way.now.page.now.tree.now.boxes }
+    requires keeps { Keeps S.at way.now (S.run calc.old) going.old }
+    ensures { GoesForward S.at way.now S.run calc.old calc.new going.new (found_at S.at going.new result)
+        (λ e. way_at S.at way.now e (band_at S.at cb.now e) b (run_at S.at going.old.run e)
+        (waiting_all S.at going.old.waiting e))
+        (λ e. WayFitsAt S.at way.now e (band_at S.at cb.now e) b (run_at S.at going.old.run e)
+        (waiting_all S.at going.old.waiting e)) }
+{
     // Each box with `clear` is decided where it is met, on the way forward.
     if stops_at(way.page.tree, way.past, b)
         && let Some(edge) = decided(alloc, calc, way, cb, b, going)
@@ -338,7 +454,7 @@ pub fn forward<S: Steady>(
     inner(alloc, calc, way, cb, b, going)
 }
 
-#[cycle(forward)]
+#[cycle(onward)]
 /// The same of a box that is not cleared.
 fn inner<S: Steady>(
     alloc: Global,
@@ -348,8 +464,9 @@ fn inner<S: Steady>(
     b: u32,
     going: &mut Going<S::Num>,
 ) -> End<S::Num>
-    requires { b < length way.now.page.now.tree.now.boxes }
-    ensures { LaysButMem S.run calc.old calc.new (found_at S.at going.new result)
+    requires within { b < length way.now.page.now.tree.now.boxes }
+    requires keeps { Keeps S.at way.now (S.run calc.old) going.old }
+    ensures { GoesForward S.at way.now S.run calc.old calc.new going.new (found_at S.at going.new result)
         (λ e. inner_at S.at way.now e (band_at S.at cb.now e) b (run_at S.at going.old.run e)
         (waiting_all S.at going.old.waiting e))
         (λ e. WayFitsAt S.at way.now e (band_at S.at cb.now e) b (run_at S.at going.old.run e)
@@ -381,7 +498,7 @@ fn close<N>(tree: &BoxTree, b: u32, end: End<N>) -> End<N>
     }
 }
 
-#[cycle(forward)]
+#[cycle(onward)]
 /// The same of what is in the flow of a box.
 fn content<S: Steady>(
     alloc: Global,
@@ -391,14 +508,13 @@ fn content<S: Steady>(
     b: u32,
     going: &mut Going<S::Num>,
 ) -> End<S::Num>
-    requires { b < length way.now.page.now.tree.now.boxes }
-    ensures { LaysButMem S.run calc.old calc.new (found_at S.at going.new result)
-        (λ e. kids_at_reading S.at way.now e (band_at S.at band.now e)
-        (flow_children way.now.page.now.tree.now b) (run_at S.at going.old.run e)
-        (waiting_all S.at going.old.waiting e))
-        (λ e. KidsFitAt S.at way.now e (band_at S.at band.now e)
-        (flow_children way.now.page.now.tree.now b) (run_at S.at going.old.run e)
-        (waiting_all S.at going.old.waiting e)) }
+    requires within { b < length way.now.page.now.tree.now.boxes }
+    requires keeps { Keeps S.at way.now (S.run calc.old) going.old }
+    ensures { GoesForward S.at way.now S.run calc.old calc.new going.new (found_at S.at going.new result)
+        (λ e. kids_at_reading S.at way.now e (band_at S.at band.now e) (flow_children way.now.page.now.tree.now b)
+        (run_at S.at going.old.run e) (waiting_all S.at going.old.waiting e))
+        (λ e. KidsFitAt S.at way.now e (band_at S.at band.now e) (flow_children way.now.page.now.tree.now b)
+        (run_at S.at going.old.run e) (waiting_all S.at going.old.waiting e)) }
 {
     let tree = way.page.tree;
     if !holds_inline(tree, b) {
@@ -413,7 +529,7 @@ fn content<S: Steady>(
     }
 }
 
-#[cycle(forward)]
+#[cycle(onward)]
 #[tactic(auto, unfolding(flow_steps::specs::Forward::kid_of))]
 /// The same of boxes behind a box, one after another.
 fn kids<S: Steady>(
@@ -427,13 +543,13 @@ fn kids<S: Steady>(
 ) -> End<S::Num>
     requires within { b < length way.now.page.now.tree.now.boxes }
     requires behind { (i : ℕ) → i < length boxes.now
-        → (b < slice_index_or boxes.now i 0)
-        × (slice_index_or boxes.now i 0 < length way.now.page.now.tree.now.boxes) }
-    ensures { LaysButMem S.run calc.old calc.new (found_at S.at going.new result)
-        (λ e. kids_at_reading S.at way.now e (band_at S.at band.now e) boxes.now
-        (run_at S.at going.old.run e) (waiting_all S.at going.old.waiting e))
-        (λ e. KidsFitAt S.at way.now e (band_at S.at band.now e) boxes.now
-        (run_at S.at going.old.run e) (waiting_all S.at going.old.waiting e)) }
+        → (b < slice_index_or boxes.now i 0) × (slice_index_or boxes.now i 0 < length way.now.page.now.tree.now.boxes) }
+    requires keeps { Keeps S.at way.now (S.run calc.old) going.old }
+    ensures { GoesForward S.at way.now S.run calc.old calc.new going.new (found_at S.at going.new result)
+        (λ e. kids_at_reading S.at way.now e (band_at S.at band.now e) boxes.now (run_at S.at going.old.run e)
+        (waiting_all S.at going.old.waiting e))
+        (λ e. KidsFitAt S.at way.now e (band_at S.at band.now e) boxes.now (run_at S.at going.old.run e)
+        (waiting_all S.at going.old.waiting e)) }
 {
     for place in boxes {
         let end = kid(alloc, calc, way, band, *place, going);
@@ -444,7 +560,7 @@ fn kids<S: Steady>(
     End::GoesOn
 }
 
-#[cycle(forward)]
+#[cycle(onward)]
 /// The same of one: a float waits, and after a box that goes on its bottom margin follows.
 fn kid<S: Steady>(
     alloc: Global,
@@ -454,8 +570,9 @@ fn kid<S: Steady>(
     k: u32,
     going: &mut Going<S::Num>,
 ) -> End<S::Num>
-    requires { k < length way.now.page.now.tree.now.boxes }
-    ensures { LaysButMem S.run calc.old calc.new (found_at S.at going.new result)
+    requires within { k < length way.now.page.now.tree.now.boxes }
+    requires keeps { Keeps S.at way.now (S.run calc.old) going.old }
+    ensures { GoesForward S.at way.now S.run calc.old calc.new going.new (found_at S.at going.new result)
         (λ e. kid_at S.at way.now e (band_at S.at band.now e) k (run_at S.at going.old.run e)
         (waiting_all S.at going.old.waiting e))
         (λ e. KidFitsAt S.at way.now e (band_at S.at band.now e) k (run_at S.at going.old.run e)
@@ -466,7 +583,7 @@ fn kid<S: Steady>(
         wait(calc, band, k, &mut going.waiting);
         return End::GoesOn;
     }
-    let end = forward(alloc, calc, way, band, k, going);
+    let end = onward(alloc, calc, way, band, k, going);
     if matches!(end, End::GoesOn) {
         join_bottom(calc, way.page.tree, band, k, &mut going.run);
     }

@@ -1,5 +1,6 @@
 //! How far the flow has come, and what it lays out (CSS 2.1, 8.3.1, 9.4.1, 9.5), in units of 1/64 px.
 use lay_float::Floats;
+use lay_float::trial::Trial;
 use lay_margin::Run;
 use viz_base::{BoxTree, Extent, List, Placed, Waiting};
 
@@ -72,6 +73,16 @@ pub enum End<N> {
     Ends(Cleared<N>),
 }
 
+/// Floats that were tried where a run of margins might end.
+#[derive(Drop)]
+pub struct Tries<N> {
+    /// Where it would end.
+    pub y: N,
+    /// How many of the floats that wait were tried: the first ones.
+    pub count: usize,
+    pub trial: Trial<N>,
+}
+
 /// What the way forward from a box has found.
 #[derive(Drop)]
 pub struct Going<N> {
@@ -79,6 +90,8 @@ pub struct Going<N> {
     pub run: Run<N>,
     /// The floats that wait for its end.
     pub waiting: List<Waiting<N>>,
+    /// The last floats that were tried, if they are kept.
+    pub tries: Option<Tries<N>>,
 }
 
 /// A box in flow that is reached.

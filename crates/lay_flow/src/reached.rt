@@ -64,6 +64,7 @@ fn go<S: Steady>(
     let mut going = Going {
         run,
         waiting: List::new(alloc),
+        tries: None,
     };
     let way = Way {
         page,

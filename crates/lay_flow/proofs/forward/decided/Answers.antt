@@ -22,8 +22,8 @@ none-decided : (g : Ground) (cb : Band ℤ) (b : ℕ) (run : Run ℤ) (ws : List
 unfolding bottom_to_clear
 none-decided g cb b run ws e f = rw (e, f) refl
 
-pub returns-then-is_empty-2 : goal.returns-then-is_empty-2
-returns-then-is_empty-2 g c = record {
+pub returns-then-is_empty-2-clause-forward : goal.returns-then-is_empty-2-clause-forward
+returns-then-is_empty-2-clause-forward g c = record {
   goes = grind (arith, common_steps);
   value = λ e o.
       let at = g.S.Steady.at in
@@ -32,5 +32,6 @@ returns-then-is_empty-2 g c = record {
       let none_wait : c.args.going.now.waiting ≡ [] = grind arith in
       none-decided (ground_at at way e) (band_at at c.args.cb.now e) c.args.b (run_at at c.args.going.now.run e) (floats_at at c.args.going.now.waiting e)
       (ap (λ fs. boxes_at at fs e) no_floats) (ap (λ ws. floats_at at ws e) none_wait);
+  keeps = c.requires.keeps;
   cause = grind (arith, common_steps);
 }

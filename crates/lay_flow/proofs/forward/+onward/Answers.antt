@@ -1,75 +1,84 @@
 use Rattle.std.proofs.Common.{◌≡◌, true, false, ◌+◌, drop, get_or, IsTrue, arith, ap, sym, subst, ◌∙◌}
 use Rattle.std.proofs.lemmas.List.{drop_more}
 use Rattle.std.proofs.lemmas.Grind.{common_steps}
-use Rattle.viz_calc.specs.Run.{Goes, BlamesButMem}
 use Rattle.viz_calc.specs.World.{Reading}
 use Rattle.viz_calc.proofs.Runs.{Goes-then, BlamesButMem-then}
 use Rattle.viz_calc.specs.Renderings.{band_at}
 use Rattle.layout_semantics.specs.FlowBoxes.{flow_children}
 use Rattle.layout_semantics.specs.InlineContent.{is_floated_at, holds_inline}
-use Rattle.lay_line.proofs.Chains.{but_mem, start_but_mem, next_but_mem}
+use Rattle.lay_line.proofs.Chains.{ChainButMem, but_mem, start_but_mem, next_but_mem}
 use Rattle.lay_margin.specs.Readings.{floats_at}
 use Rattle.lay_margin.specs.Runs.{run_at}
 use Rattle.lay_margin.specs.steps.Leads.{enters, inner_band}
 use Rattle.lay_margin.proofs.Kids.{flow-kids}
 use Rattle.flow_steps.specs.Forward.{Found, kid_of}
 use Rattle.lay_flow.specs.Readings.{end_at}
-use Rattle.lay_flow.specs.Ways.{ground_at, way_at, kids_at_reading, WayFitsAt, KidsFitAt, KidFitsAt}
+use Rattle.lay_flow.specs.Ways.{ground_at, way_at, kids_at_reading, WayFitsAt, KidsFitAt, KidFitsAt, AreTried}
 use Rattle.lay_flow.specs.declared.parts.End.TheVariants.{GoesOn}
+use Rattle.lay_flow.proofs.Tried.{later-tried}
 use Rattle.lay_flow.proofs.Ways.{way-inside as one-step}
 use Rattle.lay_flow.proofs.WaysLow.{kids-on, way-decides, way-above, way-below, way-band, way-inside, kids-first, kids-later}
-use Rattle.lay_flow.proofs.forward.+forward.Goals.{forward-else-stops_at-via-else-stops_at, forward-else-stops_at-via-then-stops_at+in-None-1}
-use Rattle.lay_flow.proofs.forward.+forward.Goals as goal
+use Rattle.lay_flow.proofs.forward.+onward.Goals.{onward-else-stops_at-via-else-stops_at, onward-else-stops_at-via-then-stops_at+in-None-1}
+use Rattle.lay_flow.proofs.forward.+onward.Goals as goal
 
-pub forward-returns : goal.forward-returns
-forward-returns g t c =
+pub onward-returns : goal.onward-returns
+onward-returns g t c =
     let at = g.S.Steady.at in
     let way = c.args.way.now in
     let cb = (λ (e : Reading). band_at at c.args.cb.now e) in
     let run = (λ (e : Reading). run_at at c.args.going.now.run e) in
     let waiting = (λ (e : Reading). floats_at at c.args.going.now.waiting e) in
-    let chain = start_but_mem {asks = λ (e : Reading). WayFitsAt at way e (cb e) c.args.b (run e) (waiting e)} c.decided.ensures.goes c.decided.ensures.cause
+    let chain = start_but_mem {asks = λ (e : Reading). WayFitsAt at way e (cb e) c.args.b (run e) (waiting e)} c.decided.ensures.forward.goes c.decided.ensures.forward.cause
     (λ f e o. way-decides (ground_at at way e) (way_at at way e) (cb e) c.args.b (run e) (waiting e) (f e o)) in
     record {
       goes = chain.goes;
       value = λ e o.
-          let is = one-step at c.args.way.now e (band_at at c.args.cb.now e) c.args.b (run_at at c.args.going.now.run e) (floats_at at c.args.going.now.waiting e) c.requires in
+          let is = one-step at c.args.way.now e (band_at at c.args.cb.now e) c.args.b (run_at at c.args.going.now.run e) (floats_at at c.args.going.now.waiting e) c.requires.within in
           grind (arith, common_steps);
+      keeps = c.decided.ensures.forward.keeps;
       cause = chain.cause;
     }
 
-pub forward-returns-2 : goal.forward-returns-2
-forward-returns-2 g t c = record {
+pub onward-returns-2 : goal.onward-returns-2
+onward-returns-2 g t c = record {
   goes = grind (arith, common_steps);
   value = λ e o.
       let at = g.S.Steady.at in
-      let is = one-step at c.args.way.now e (band_at at c.args.cb.now e) c.args.b (run_at at c.args.going.now.run e) (floats_at at c.args.going.now.waiting e) c.requires in
+      let is = one-step at c.args.way.now e (band_at at c.args.cb.now e) c.args.b (run_at at c.args.going.now.run e) (floats_at at c.args.going.now.waiting e) c.requires.within in
       elim c.else-stops_at.branch [
-        | forward-else-stops_at-via-else-stops_at w ↦ grind (arith, common_steps)
-        | forward-else-stops_at-via-then-stops_at+in-None-1 w ↦ grind (arith, common_steps)
+        | onward-else-stops_at-via-else-stops_at w ↦ grind (arith, common_steps)
+        | onward-else-stops_at-via-then-stops_at+in-None-1 w ↦ grind (arith, common_steps)
       ];
-  cause = elim c.else-stops_at.branch [
-    | forward-else-stops_at-via-else-stops_at w ↦
-        let at = g.S.Steady.at in
-        let run = g.S.Steady.run in
-        let same : c.else-stops_at.calc ≡ c.args.calc.now = grind arith in
-        subst (λ k. BlamesButMem (run k) (run c.inner.new.calc)
-        ((e : Reading) → IsTrue ((run k).is_open e) → WayFitsAt at c.args.way.now e (band_at at c.args.cb.now e) c.args.b (run_at at c.args.going.now.run e) (floats_at at c.args.going.now.waiting e)))
-        same c.inner.ensures.cause
-    | forward-else-stops_at-via-then-stops_at+in-None-1 w ↦
-        let at = g.S.Steady.at in
-        let way = c.args.way.now in
-        let cb = (λ (e : Reading). band_at at c.args.cb.now e) in
-        let run = (λ (e : Reading). run_at at c.args.going.now.run e) in
-        let waiting = (λ (e : Reading). floats_at at c.args.going.now.waiting e) in
-        let one = start_but_mem {asks = λ (e : Reading). WayFitsAt at way e (cb e) c.args.b (run e) (waiting e)} w.decided.ensures.goes w.decided.ensures.cause
-        (λ f e o. way-decides (ground_at at way e) (way_at at way e) (cb e) c.args.b (run e) (waiting e) (f e o)) in
-        let same : c.else-stops_at.calc ≡ w.decided.new.calc = grind arith in
-        let last = subst (λ k. Goes (g.S.Steady.run k) (g.S.Steady.run c.inner.new.calc)) same c.inner.ensures.goes in
-        let cause = subst (λ k. BlamesButMem (g.S.Steady.run k) (g.S.Steady.run c.inner.new.calc)
-        ((e : Reading) → IsTrue ((g.S.Steady.run k).is_open e) → WayFitsAt at way e (cb e) c.args.b (run e) (waiting e))) same c.inner.ensures.cause in
-        (next_but_mem one last cause (λ f. f)).cause
-  ];
+  keeps = c.inner.ensures.keeps;
+  cause =
+      let at = g.S.Steady.at in
+      let run = g.S.Steady.run in
+      let way = c.args.way.now in
+      let cb = (λ (e : Reading). band_at at c.args.cb.now e) in
+      let margins = (λ (e : Reading). run_at at c.args.going.now.run e) in
+      let waiting = (λ (e : Reading). floats_at at c.args.going.now.waiting e) in
+      let asks = (λ (e : Reading). WayFitsAt at way e (cb e) c.args.b (margins e) (waiting e)) in
+      elim c.else-stops_at.branch [
+        | onward-else-stops_at-via-else-stops_at w ↦
+            let same : c.else-stops_at.calc ≡ c.args.calc.now = grind arith in
+            let same_run : c.args.going.now.run ≡ c.else-stops_at.going.run = grind arith in
+            let same_waiting : c.args.going.now.waiting ≡ c.else-stops_at.going.waiting = grind arith in
+            let on = start_but_mem {asks = asks} c.inner.ensures.goes c.inner.ensures.cause (λ f e o.
+            subst (λ r. WayFitsAt at way e (cb e) c.args.b (run_at at r e) (floats_at at c.else-stops_at.going.waiting e)) same_run
+            (subst (λ ws. WayFitsAt at way e (cb e) c.args.b (margins e) (floats_at at ws e)) same_waiting (f e o))) in
+            (subst (λ k. ChainButMem (run k) (run c.inner.new.calc) asks) same on).cause
+        | onward-else-stops_at-via-then-stops_at+in-None-1 w ↦
+            let one = start_but_mem {asks = asks} w.decided.ensures.forward.goes w.decided.ensures.forward.cause
+            (λ f e o. way-decides (ground_at at way e) (way_at at way e) (cb e) c.args.b (margins e) (waiting e) (f e o)) in
+            let same : c.else-stops_at.calc ≡ w.decided.new.calc = grind arith in
+            let same_run : c.args.going.now.run ≡ c.else-stops_at.going.run = grind arith in
+            let same_waiting : c.args.going.now.waiting ≡ c.else-stops_at.going.waiting = grind arith in
+            let on = start_but_mem {asks = asks} c.inner.ensures.goes c.inner.ensures.cause (λ f e o.
+            subst (λ r. WayFitsAt at way e (cb e) c.args.b (run_at at r e) (floats_at at c.else-stops_at.going.waiting e)) same_run
+            (subst (λ ws. WayFitsAt at way e (cb e) c.args.b (margins e) (floats_at at ws e)) same_waiting (f e o))) in
+            let last = subst (λ k. ChainButMem (run k) (run c.inner.new.calc) asks) same on in
+            (next_but_mem one last.goes last.cause (λ f. f)).cause
+      ];
 }
 
 -- ---- causes
@@ -86,6 +95,7 @@ inner-returns-then-not-enters g t c =
     record {
       goes = chain.goes;
       value = grind (arith, common_steps);
+      keeps = λ e o. c.requires.keeps e (c.join_top.ensures.goes.closes e o);
       cause = chain.cause;
     }
 
@@ -112,6 +122,7 @@ inner-returns g t c =
     record {
       goes = chain.goes;
       value = grind (arith, common_steps);
+      keeps = c.content-end.ensures.keeps;
       cause = chain.cause;
     }
 
@@ -126,6 +137,7 @@ content-returns-then-not-holds_inline g t c =
     record {
       goes = chain.goes;
       value = grind (arith, common_steps);
+      keeps = c.kids.ensures.keeps;
       cause = chain.cause;
     }
 
@@ -139,12 +151,13 @@ kid-returns-then-matches g t c =
     let run = (λ (e : Reading). run_at at c.args.going.now.run e) in
     let waiting = (λ (e : Reading). floats_at at c.args.going.now.waiting e) in
     let in_flow : is_floated_at tree k ≡ false = grind arith in
-    let one = start_but_mem {asks = λ (e : Reading). KidFitsAt at way e (band e) k (run e) (waiting e)} c.forward-end.ensures.goes c.forward-end.ensures.cause (λ f e o. (f e o).way in_flow) in
+    let one = start_but_mem {asks = λ (e : Reading). KidFitsAt at way e (band e) k (run e) (waiting e)} c.onward-end.ensures.goes c.onward-end.ensures.cause (λ f e o. (f e o).way in_flow) in
     let chain = next_but_mem one c.join_bottom.ensures.goes (but_mem c.join_bottom.ensures.cause)
     (λ f e o. way-below (ground_at at way e) (way_at at way e) (band e) k (run e) (waiting e) ((f e o).way in_flow)) in
     record {
       goes = chain.goes;
       value = grind (arith, common_steps);
+      keeps = λ e o. c.onward-end.ensures.keeps e (c.join_bottom.ensures.goes.closes e o);
       cause = chain.cause;
     }
 
@@ -153,6 +166,7 @@ unfolding kid_of
 kids-returns-then-not-matches g t c = record {
   goes = grind (arith, common_steps);
   value = grind (arith, common_steps);
+  keeps = c.kid-end.ensures.keeps;
   cause =
       let at = g.S.Steady.at in
       let way = c.args.way.now in
@@ -198,7 +212,24 @@ kids-loop-place-preserved g t c =
       fits = λ e o f.
           subst (λ (x : Found). KidsFitAt at way e (band e) (drop (k + 1) all) x.run x.waiting) (sym (own.value e o))
           (kids-later (ground_at at way e) (way_at at way e) (band e) b (drop (k + 1) all) (run e) (waiting e) (here e (inv.fits e (own.goes.closes e o) f)) (goes e o));
+      keeps = own.keeps;
       cause = BlamesButMem-then _ _ _ _ _ inv.goes own.goes inv.cause
           (λ f e o. kids-first (ground_at at way e) (way_at at way e) (band e) b (drop (k + 1) all) (run e) (waiting e) (here e (inv.fits e o (f e (inv.goes.closes e o)))))
           own.cause;
+    }
+
+pub kid-returns-then-floats_at : goal.kid-returns-then-floats_at
+kid-returns-then-floats_at g t c =
+    let at = g.S.Steady.at in
+    let way = c.args.way.now in
+    let going = c.args.going.now in
+    let wait = c.wait.ensures in
+    let chain = start_but_mem {asks = λ (e : Reading). KidFitsAt at way e (band_at at c.args.band.now e) c.args.k (run_at at going.run e) (floats_at at going.waiting e)} wait.goes wait.cause (λ f e o. (f e o).band) in
+    record {
+      goes = chain.goes;
+      value = grind (arith, common_steps);
+      keeps = λ e o.
+          subst (λ ws. AreTried at way e ws going.tries) (sym (wait.value e o))
+          (later-tried at way e going.tries (floats_at at going.waiting e) (record { at = c.args.k; cb = band_at at c.args.band.now e }) (c.requires.keeps e (wait.goes.closes e o)));
+      cause = chain.cause;
     }
