@@ -26,7 +26,7 @@ use Rattle.layout_semantics.specs.Lists.{table_of}
 use Rattle.layout_semantics.specs.Extremes.{greatest_from}
 use Rattle.layout_semantics.specs.Floats.{FloatBox}
 use Rattle.layout_semantics.specs.Rectangles.{Frame, content_top, placed_box, shifted}
-use Rattle.layout_semantics.specs.FlowBoxes.{is_replaced_at, is_context_root, is_open_above, may_collapse_through, joins_last_child, flow_children, across, content_from, room}
+use Rattle.layout_semantics.specs.FlowBoxes.{is_replaced_at, is_context_root, is_open_above, may_collapse_through, joins_last_child, flow_children, inline_size, content_from, room}
 use Rattle.layout_semantics.specs.InlineContent.{is_floated_at, has_line, inner_boxes}
 use Rattle.layout_semantics.specs.Leads.{none_passed, all_passed, is_up_to, bottom_margin}
 use Rattle.layout_semantics.specs.Leads.{lead as landed_lead}
@@ -35,7 +35,7 @@ use Rattle.layout_semantics.specs.LineHeights.{InlineContext}
 use Rattle.layout_semantics.specs.Lines.{LineList, lines_in}
 use Rattle.layout_semantics.specs.Clearance.{Base, hangs, stands, on_ground, resolve}
 use Rattle.layout_semantics.specs.Flow as landed
-use Rattle.layout_semantics.specs.Flow.{Cleared, Alone, Reached, Progress, raised, content_height}
+use Rattle.layout_semantics.specs.Flow.{Cleared, Independent, Reached, Progress, raised, content_height}
 use Rattle.layout_laws.proofs.Levels.{IsFrom, All-implied, map-same}
 use Rattle.layout_laws.proofs.WholeLines.{shown, content-shown}
 use Rattle.layout_laws.proofs.LeadLevels.{children-from}
@@ -48,7 +48,7 @@ use Rattle.flow_steps.specs.Order.{is_before}
 use Rattle.flow_steps.specs.Runs.{run_of}
 use Rattle.flow_steps.specs.Forward.{Found, goes_on, cleared_of, forward}
 use Rattle.flow_steps.specs.Progress.{squeezed, context_of}
-use Rattle.flow_steps.specs.Flow.{Standing, at_top, below, Context, fresh, Step, step, next_edge, is_at_top, Laid, met, context_height, block_height, joined_run, line_tops, after_lines, children, frame_at, corner_frame, context_box, block_box, whole, alone, size_in, float_placed, float_child, reached_at, reached, opened, closed, laid_context, laid_block, laid, run_forward, own_run, standing_after, child, inner_size, entry_boxes, line_content, content_step}
+use Rattle.flow_steps.specs.Flow.{Standing, at_top, below, Context, fresh, Step, step, next_edge, is_at_top, Laid, met, context_height, block_height, joined_run, line_tops, after_lines, children, frame_at, corner_frame, context_box, block_box, whole, independent, size_in, float_placed, float_child, reached_at, reached, opened, closed, laid_context, laid_block, laid, run_forward, own_run, standing_after, child, inner_size, entry_boxes, line_content, content_step}
 use Rattle.flow_steps.specs.Tables.{outside_of}
 use Rattle.flow_steps.proofs.Passed.{all-passed}
 use Rattle.flow_steps.proofs.Through.{way-on}
@@ -116,10 +116,10 @@ module _ (tree : BoxTree) (w : World) where
 
   -- ---- a box in coordinates of its own
 
-  pub alone-same : (inside : ℕ → Band ℤ → ℤ → Progress → Progress) (content : ℕ → Band ℤ → ℤ → Context → Step) (b : ℕ) (wide : ℤ)
+  pub independent-same : (inside : ℕ → Band ℤ → ℤ → Progress → Progress) (content : ℕ → Band ℤ → ℤ → Context → Step) (b : ℕ) (wide : ℤ)
       → ((top : ℤ) → Follows (landed.fresh top) (inside b (band_in (pos 0) b wide) top (landed.fresh top)) (content b (band_in (pos 0) b wide) top (fresh top)))
-      → landed.alone tree w inside b wide ≡ alone tree w content b wide
-  alone-same inside content b wide again = by (is_replaced_at tree b) refl
+      → landed.independent tree w inside b wide ≡ independent tree w content b wide
+  independent-same inside content b wide again = by (is_replaced_at tree b) refl
     where
       f : Frame
       f = corner_frame tree w b wide
@@ -133,7 +133,7 @@ module _ (tree : BoxTree) (w : World) where
       q : Step
       q = content b (content_from (pos 0) f.x) top (fresh top)
 
-      by : (r : Bool) → is_replaced_at tree b ≡ r → landed.alone tree w inside b wide ≡ alone tree w content b wide
+      by : (r : Bool) → is_replaced_at tree b ≡ r → landed.independent tree w inside b wide ≡ independent tree w content b wide
       by true e = rw e refl
       by false e =
           let follows : Follows (landed.fresh top) end q = again top in
@@ -144,15 +144,15 @@ module _ (tree : BoxTree) (w : World) where
 
   -- ---- one level: `inside` and `content` lay out what is in a box behind this one, and `apart` holds what stands outside the flow
 
-  module _ (inside : ℕ → Band ℤ → ℤ → Progress → Progress) (content : ℕ → Band ℤ → ℤ → Context → Step) (apart : ℕ → Alone) (low : ℕ)
+  module _ (inside : ℕ → Band ℤ → ℤ → Progress → Progress) (content : ℕ → Band ℤ → ℤ → Context → Step) (apart : ℕ → Independent) (low : ℕ)
       (again : (k : ℕ) (left wide top : ℤ) (p : Progress) → suc low ≤ k → IsSound tree w k wide → Follows p (inside k (band_in left k wide) top p) (content k (band_in left k wide) top (context_of p)))
-      (served : (c : ℕ) → low ≤ c → IsOnPage tree.boxes c → is_inline (kind_of tree c) ≡ false → AllByRecursion (λ k. landed.alone tree w inside k (room tree w k) ≡ apart k) (outside_of tree c))
+      (served : (c : ℕ) → low ≤ c → IsOnPage tree.boxes c → is_inline (kind_of tree c) ≡ false → AllByRecursion (λ k. landed.independent tree w inside k (room tree w k) ≡ apart k) (outside_of tree c))
       (tops : (k : ℕ) → suc low ≤ k → k < length tree.boxes → IsTopFree tree w apart content k) where
     abbrev IsServed : ℕ → Type 0
-    IsServed k = landed.alone tree w inside k (room tree w k) ≡ apart k
+    IsServed k = landed.independent tree w inside k (room tree w k) ≡ apart k
 
-    wide-served : (k : ℕ) (wide : ℤ) → IsSound tree w k wide → IsServed k → landed.alone tree w inside k wide ≡ apart k
-    wide-served k wide s e = ap (landed.alone tree w inside k) s.room ∙ e
+    wide-served : (k : ℕ) (wide : ℤ) → IsSound tree w k wide → IsServed k → landed.independent tree w inside k wide ≡ apart k
+    wide-served k wide s e = ap (landed.independent tree w inside k) s.room ∙ e
 
     passed : (P : ℕ → Type 0) (test : ℕ → Bool) (ks : List ℕ) → AllByRecursion P (filter test ks) → AllByRecursion (λ k. test k ≡ true → P k) ks
     passed P test [] a = tt
@@ -181,7 +181,7 @@ module _ (tree : BoxTree) (w : World) where
     SameSize f = landed.waiting_size tree w inside f ≡ size_in apart f
 
     pub record IsFine (cb : Band ℤ) (k : ℕ) : Type 0 where
-      pub kid : IsFlowKid tree w k (across cb)
+      pub kid : IsFlowKid tree w k (inline_size cb)
       pub flow : is_floated_at tree k ≡ false
       pub above : low ≤ k
 
@@ -195,13 +195,13 @@ module _ (tree : BoxTree) (w : World) where
     closes cb b fine i =
         let band = inner_band tree w cb b in
         let above = fine.above in
-        All-implied (λ k. IsFlowKid tree w k (across band) × IsFrom tree.boxes (suc b) k × (is_floated_at tree k ≡ true → IsServed k))
+        All-implied (λ k. IsFlowKid tree w k (inline_size band) × IsFrom tree.boxes (suc b) k × (is_floated_at tree k ≡ true → IsServed k))
         (λ k. (is_floated_at tree k ≡ true → SameSize (record { at = k; cb = band })) × (is_floated_at tree k ≡ false → IsFine band k)) (flow_children tree b)
         (λ k h. (
-          λ f. ap (λ (a : Alone). a.size) (wide-served k (across band) h.0.sound (h.2 f)),
+          λ f. ap (λ (a : Independent). a.size) (wide-served k (inline_size band) h.0.sound (h.2 f)),
           λ f. record { kid = h.0; flow = f; above = let from = h.1.from in omega arith },
         ))
-        (both (λ k. IsFlowKid tree w k (across band)) (IsFrom tree.boxes (suc b)) (λ k. is_floated_at tree k ≡ true → IsServed k) (flow_children tree b)
+        (both (λ k. IsFlowKid tree w k (inline_size band)) (IsFrom tree.boxes (suc b)) (λ k. is_floated_at tree k ≡ true → IsServed k) (flow_children tree b)
         (lead-sound tree w cb b fine.kid fine.flow i) (children-from tree b)
         (floats-served b above fine.kid.sound.page fine.kid.sound.block (enters-no-line tree b i)))
 
@@ -212,17 +212,17 @@ module _ (tree : BoxTree) (w : World) where
 
     -- ---- floats
 
-    float-follows : (cb : Band ℤ) (p : Progress) (k : ℕ) (y : ℤ) (a : Alone) → Follows p (landed.after_float tree w inside cb p k y a) (float_placed tree w content apart cb (context_of p) k y a)
+    float-follows : (cb : Band ℤ) (p : Progress) (k : ℕ) (y : ℤ) (a : Independent) → Follows p (landed.after_float tree w inside cb p k y a) (float_placed tree w content apart cb (context_of p) k y a)
     float-follows cb p k y a = record { context = refl; boxes = refl }
 
-    float-agrees : (cb : Band ℤ) (top : ℤ) (p : Progress) (k : ℕ) → IsSound tree w k (across cb) → IsServed k
+    float-agrees : (cb : Band ℤ) (top : ℤ) (p : Progress) (k : ℕ) → IsSound tree w k (inline_size cb) → IsServed k
         → Follows p (landed.float_child tree w inside cb top p k) (float_child tree w content apart cb top (context_of p) k)
     float-agrees cb top p k s e =
         let y = int_max top (landed.next_edge p.standing) in
         subst (λ (q : Step). Follows p (landed.float_child tree w inside cb top p k) q)
-        (ap (λ (e : ℤ). float_placed tree w content apart cb (context_of p) k (int_max top e) (landed.alone tree w inside k (across cb))) (edge-same p.standing)
-        ∙ ap (float_placed tree w content apart cb (context_of p) k (int_max top (next_edge (squeezed p.standing)))) (wide-served k (across cb) s e))
-        (float-follows cb p k y (landed.alone tree w inside k (across cb)))
+        (ap (λ (e : ℤ). float_placed tree w content apart cb (context_of p) k (int_max top e) (landed.independent tree w inside k (inline_size cb))) (edge-same p.standing)
+        ∙ ap (float_placed tree w content apart cb (context_of p) k (int_max top (next_edge (squeezed p.standing)))) (wide-served k (inline_size cb) s e))
+        (float-follows cb p k y (landed.independent tree w inside k (inline_size cb)))
 
     -- ---- where a box in flow is reached
 
@@ -292,14 +292,14 @@ module _ (tree : BoxTree) (w : World) where
     start-same f cleared true = refl
     start-same f cleared false = refl
 
-    block-same : (cb : Band ℤ) (p : Progress) (k : ℕ) (cleared : Cleared) (y : ℤ) → suc low ≤ k → IsSound tree w k (across cb)
-        → LaidSame p (landed.laid_block tree w inside cb p k cleared (frame_at tree w k (across cb) cb.left y))
-        (laid_block tree w content apart cb (context_of p) k cleared (frame_at tree w k (across cb) cb.left y))
+    block-same : (cb : Band ℤ) (p : Progress) (k : ℕ) (cleared : Cleared) (y : ℤ) → suc low ≤ k → IsSound tree w k (inline_size cb)
+        → LaidSame p (landed.laid_block tree w inside cb p k cleared (frame_at tree w k (inline_size cb) cb.left y))
+        (laid_block tree w content apart cb (context_of p) k cleared (frame_at tree w k (inline_size cb) cb.left y))
     unfolding started begun
     block-same cb p k cleared y above sound = by (is_open_above tree k) refl
       where
         f : Frame
-        f = frame_at tree w k (across cb) cb.left y
+        f = frame_at tree w k (inline_size cb) cb.left y
 
         joins : Bool
         joins = joins_last_child tree k
@@ -316,7 +316,7 @@ module _ (tree : BoxTree) (w : World) where
         ends start none =
             let end = inside k (content_from cb.left f.x) top start in
             let q = content k (content_from cb.left f.x) top (context_of start) in
-            let follows : Follows start end q = again k cb.left (across cb) top start above sound in
+            let follows : Follows start end q = again k cb.left (inline_size cb) top start above sound in
             closed-same p f (landed.is_at_top tree w end.standing && may_collapse_through tree k) (is_at_top q.context.standing && may_collapse_through tree k)
             (landed.joined_run tree w joins end.standing) (joined_run joins q.context.standing) end q
             (placed_box tree k f (content_height tree w k (landed.block_height tree w joins top end.standing))) (block_box tree w k f q.context)
@@ -330,16 +330,16 @@ module _ (tree : BoxTree) (w : World) where
         by true e = rw e (ends (landed.opened tree w inside p f (landed.at_top f.corner.y cleared)) refl)
         by false e = rw e (ends (landed.opened tree w inside p f (landed.below (content_top f) [] false)) refl)
 
-    root-same : (cb : Band ℤ) (p : Progress) (k : ℕ) (y : ℤ) → suc low ≤ k → IsSound tree w k (across cb)
-        → LaidSame p (landed.laid_context tree w inside cb p k (frame_at tree w k (across cb) cb.left y))
-        (laid_context tree w content apart cb (context_of p) k (frame_at tree w k (across cb) cb.left y))
+    root-same : (cb : Band ℤ) (p : Progress) (k : ℕ) (y : ℤ) → suc low ≤ k → IsSound tree w k (inline_size cb)
+        → LaidSame p (landed.laid_context tree w inside cb p k (frame_at tree w k (inline_size cb) cb.left y))
+        (laid_context tree w content apart cb (context_of p) k (frame_at tree w k (inline_size cb) cb.left y))
     root-same cb p k y above sound =
-        let f = frame_at tree w k (across cb) cb.left y in
+        let f = frame_at tree w k (inline_size cb) cb.left y in
         let top = content_top f in
         let s = context_of p in
         let end = inside k (content_from cb.left f.x) top (landed.fresh top) in
         let q = content k (content_from cb.left f.x) top (fresh top) in
-        let follows : Follows (landed.fresh top) end q = again k cb.left (across cb) top (landed.fresh top) above sound in
+        let follows : Follows (landed.fresh top) end q = again k cb.left (inline_size cb) top (landed.fresh top) above sound in
         closed-same p f false false [] no_run
         (record (landed.opened tree w inside p f end.standing) { baseline = option_or end.baseline p.baseline; boxes = end.boxes })
         (step (record (opened tree w content apart s f q.context.standing) { baseline = option_or q.context.baseline s.baseline }) q.boxes)
@@ -349,11 +349,11 @@ module _ (tree : BoxTree) (w : World) where
         follows.boxes
         (ap (λ (h : ℤ). placed_box tree k f (content_height tree w k h)) (context-same top end) ∙ ap (context_box tree w k f) follows.context)
 
-    laid-same : (cb : Band ℤ) (p : Progress) (k : ℕ) (r : Reached) → suc low ≤ k → IsSound tree w k (across cb) → LaidSame p (landed.laid tree w inside cb p k r) (laid tree w content apart cb (context_of p) k r)
+    laid-same : (cb : Band ℤ) (p : Progress) (k : ℕ) (r : Reached) → suc low ≤ k → IsSound tree w k (inline_size cb) → LaidSame p (landed.laid tree w inside cb p k r) (laid tree w content apart cb (context_of p) k r)
     laid-same cb p k r above sound = by (is_replaced_at tree k) (is_context_root tree k) refl refl
       where
         f : Frame
-        f = frame_at tree w k (across cb) cb.left r.top
+        f = frame_at tree w k (inline_size cb) cb.left r.top
 
         by : (d c : Bool) → is_replaced_at tree k ≡ d → is_context_root tree k ≡ c → LaidSame p (landed.laid tree w inside cb p k r) (laid tree w content apart cb (context_of p) k r)
         by true c d e = rw d (record { through = refl; bottom = refl; margins = run-last [] f.v.margin_bottom; after = record { context = refl; boxes = refl } })
@@ -458,7 +458,7 @@ module _ (tree : BoxTree) (w : World) where
       pub within : k < length tree.boxes
       pub order : IsTrue (is_before tree.boxes k end)
       pub above : suc low ≤ k
-      pub kid : IsFlowKid tree w k (across cb)
+      pub kid : IsFlowKid tree w k (inline_size cb)
       pub kept : is_floated_at tree k ≡ true → IsServed k
 
     child-agrees : (cb : Band ℤ) (top : ℤ) (p : Progress) (k end : ℕ) → IsPlaced cb end k
@@ -516,8 +516,8 @@ module _ (tree : BoxTree) (w : World) where
 
     -- ---- lines
 
-    inner-same : (cb : Band ℤ) (k : ℕ) → IsSound tree w k (across cb) → IsServed k → landed.inner_size tree w inside cb k ≡ inner_size tree w content apart k
-    inner-same cb k s e = rw (wide-served k (across cb) s e) refl
+    inner-same : (cb : Band ℤ) (k : ℕ) → IsSound tree w k (inline_size cb) → IsServed k → landed.inner_size tree w inside cb k ≡ inner_size tree w content apart k
+    inner-same cb k s e = rw (wide-served k (inline_size cb) s e) refl
 
     tops-same : (e : Entry ℤ) → landed.line_tops tree w inside e ≡ line_tops e
     tops-same (of_entry.Here p) = refl
@@ -526,15 +526,15 @@ module _ (tree : BoxTree) (w : World) where
     -- the boxes that go to a line are those of the content
     abbrev IsServedEntry : Band ℤ → Entry ℤ → Type 0
     IsServedEntry cb (of_entry.Here p) = Unit {0}
-    IsServedEntry cb (of_entry.Goes k at) = landed.alone tree w inside k (across cb) ≡ apart k
+    IsServedEntry cb (of_entry.Goes k at) = landed.independent tree w inside k (inline_size cb) ≡ apart k
 
     abbrev IsServedName : Band ℤ → Kind × ℕ → Type 0
-    IsServedName cb x = landed.alone tree w inside x.1 (across cb) ≡ apart x.1
+    IsServedName cb x = landed.independent tree w inside x.1 (inline_size cb) ≡ apart x.1
 
     abbrev of_box : ℕ → List (Kind × ℕ)
     of_box k = (of_kind.Block, k) ∷ []
 
-    names-served : (cb : Band ℤ) (ks : List ℕ) → AllByRecursion (λ k. landed.alone tree w inside k (across cb) ≡ apart k) ks → AllByRecursion (IsServedName cb) (flat_map of_box ks)
+    names-served : (cb : Band ℤ) (ks : List ℕ) → AllByRecursion (λ k. landed.independent tree w inside k (inline_size cb) ≡ apart k) ks → AllByRecursion (IsServedName cb) (flat_map of_box ks)
     names-served cb [] a = tt
     names-served cb (k ∷ ks) a = (a.0, names-served cb ks a.1)
 
@@ -547,7 +547,7 @@ module _ (tree : BoxTree) (w : World) where
     boxes-same cb [] a = refl
     boxes-same cb (of_entry.Here p ∷ es) a = ap (λ (l : List (Placed ℤ)). p ∷ l) (boxes-same cb es a.1)
     boxes-same cb (of_entry.Goes k at ∷ es) a =
-        ap (λ (x : Alone). shifted at x.boxes ++ flat_map (landed.entry_boxes tree w inside cb) es) a.0
+        ap (λ (x : Independent). shifted at x.boxes ++ flat_map (landed.entry_boxes tree w inside cb) es) a.0
         ∙ ap (λ (l : List (Placed ℤ)). shifted at (apart k).boxes ++ l) (boxes-same cb es a.1)
 
     abbrev in_context : ℕ → Band ℤ → List (ℕ × Inner ℤ) → InlineContext
@@ -560,19 +560,19 @@ module _ (tree : BoxTree) (w : World) where
       boxes = ap (λ (x : List (Placed ℤ)). p.boxes ++ x) (boxes-same cb l.entries a);
     }
 
-    lines-agree : (b : ℕ) (cb : Band ℤ) (top : ℤ) (p : Progress) → AllByRecursion (λ k. IsSound tree w k (across cb) × IsServed k) (inner_boxes tree b)
+    lines-agree : (b : ℕ) (cb : Band ℤ) (top : ℤ) (p : Progress) → AllByRecursion (λ k. IsSound tree w k (inline_size cb) × IsServed k) (inner_boxes tree b)
         → Follows p (landed.line_content tree w inside b cb top p) (line_content tree w content apart b cb top (context_of p))
     lines-agree b cb top p a =
         let least = unwrap_or p.least top in
         let sized = λ (k : ℕ). let pair : ℕ × Inner ℤ = (k, landed.inner_size tree w inside cb k) in pair in
         let made = λ (k : ℕ). let pair : ℕ × Inner ℤ = (k, inner_size tree w content apart k) in pair in
         let inner : map sized (inner_boxes tree b) ≡ map made (inner_boxes tree b) = map-same sized made (inner_boxes tree b)
-        (All-implied (λ k. IsSound tree w k (across cb) × IsServed k) (λ k. sized k ≡ made k) (inner_boxes tree b)
+        (All-implied (λ k. IsSound tree w k (inline_size cb) × IsServed k) (λ k. sized k ≡ made k) (inner_boxes tree b)
         (λ k h. ap (λ (i : Inner ℤ). let pair : ℕ × Inner ℤ = (k, i) in pair) (inner-same cb k h.0 h.1)) a) in
         let q = λ (l : LineList). step (after_lines (context_of p) l) (flat_map (entry_boxes tree w content apart) l.entries) in
         let served_entries = entries-served cb (lines_in (in_context b cb (map sized (inner_boxes tree b))) top least p.floats).entries
         (subst (AllByRecursion (IsServedName cb)) (sym (content-shown of_box (in_context b cb (map sized (inner_boxes tree b))) top least p.floats))
-        (names-served cb (inner_boxes tree b) (All-implied (λ k. IsSound tree w k (across cb) × IsServed k) (λ k. landed.alone tree w inside k (across cb) ≡ apart k) (inner_boxes tree b) (λ k h. wide-served k (across cb) h.0 h.1) a))) in
+        (names-served cb (inner_boxes tree b) (All-implied (λ k. IsSound tree w k (inline_size cb) × IsServed k) (λ k. landed.independent tree w inside k (inline_size cb) ≡ apart k) (inner_boxes tree b) (λ k h. wide-served k (inline_size cb) h.0 h.1) a))) in
         subst (λ (t : Step). Follows p (landed.line_content tree w inside b cb top p) t)
         (ap (λ (i : List (ℕ × Inner ℤ)). q (lines_in (in_context b cb i) top least p.floats)) inner
         ∙ ap q (sym (lines-are (in_context b cb (map made (inner_boxes tree b))) top least p.floats)))
@@ -596,12 +596,12 @@ module _ (tree : BoxTree) (w : World) where
 
         by : (l : Bool) → has_line tree low ≡ l → Follows p (landed.flow_step tree w inside low cb top p) (content_step tree w content apart low cb top (context_of p))
         by true e =
-            let a = lines-agree low cb top p (pairs (λ k. IsSound tree w k (across cb)) IsServed (inner_boxes tree low) (inner_boxes-sound tree w low left wide sound) (inners-served low (omega arith) sound.page sound.block e)) in
+            let a = lines-agree low cb top p (pairs (λ k. IsSound tree w k (inline_size cb)) IsServed (inner_boxes tree low) (inner_boxes-sound tree w low left wide sound) (inners-served low (omega arith) sound.page sound.block e)) in
             rw e a
         by false e =
             let a = children-agree cb top end (flow_children tree low) p
-            (All-implied (λ k. IsFlowKid tree w k (across cb) × IsFrom tree.boxes (suc low) k × (is_floated_at tree k ≡ true → IsServed k)) (IsPlaced cb end) (flow_children tree low)
+            (All-implied (λ k. IsFlowKid tree w k (inline_size cb) × IsFrom tree.boxes (suc low) k × (is_floated_at tree k ≡ true → IsServed k)) (IsPlaced cb end) (flow_children tree low)
             (λ k h. record { within = h.1.within; order = order k h.1.within; above = h.1.from; kid = h.0; kept = h.2 })
-            (both (λ k. IsFlowKid tree w k (across cb)) (IsFrom tree.boxes (suc low)) (λ k. is_floated_at tree k ≡ true → IsServed k) (flow_children tree low)
+            (both (λ k. IsFlowKid tree w k (inline_size cb)) (IsFrom tree.boxes (suc low)) (λ k. is_floated_at tree k ≡ true → IsServed k) (flow_children tree low)
             (flow-sound tree w low left wide sound) (children-from tree low) (floats-served low (omega arith) sound.page sound.block e))) in
             rw e a

@@ -8,9 +8,9 @@ use Rattle.viz_base.specs.declared.trees.BoxTree.{BoxTree}
 use Rattle.viz_base.specs.declared.worlds.World.{World}
 use Rattle.layout_semantics.specs.Floats.{FloatBox}
 use Rattle.layout_semantics.specs.Rectangles.{Frame, content_top}
-use Rattle.layout_semantics.specs.FlowBoxes.{is_replaced_at, is_context_root, is_open_above, flow_children, across, content_from}
+use Rattle.layout_semantics.specs.FlowBoxes.{is_replaced_at, is_context_root, is_open_above, flow_children, inline_size, content_from}
 use Rattle.layout_semantics.specs.InlineContent.{is_floated_at, has_line}
-use Rattle.layout_semantics.specs.Flow.{Alone, Reached}
+use Rattle.layout_semantics.specs.Flow.{Independent, Reached}
 use Rattle.layout_semantics.specs.Clearance.{Base, on_ground}
 use Rattle.layout_laws.proofs.Levels.{IsFrom}
 use Rattle.layout_laws.proofs.LeadLevels.{children-from}
@@ -52,13 +52,13 @@ module _ (tree : BoxTree) (w : World) (size : Waiting ℤ → Extent ℤ) (base 
 
 -- ---- the steps through what is in a box
 
-module _ (tree : BoxTree) (w : World) (apart : ℕ → Alone) (f g : ℕ → Band ℤ → ℤ → Context → Step) (b : ℕ)
+module _ (tree : BoxTree) (w : World) (apart : ℕ → Independent) (f g : ℕ → Band ℤ → ℤ → Context → Step) (b : ℕ)
     (same : (k : ℕ) → IsFrom tree.boxes (suc b) k → (cb : Band ℤ) (top : ℤ) (s : Context) → f k cb top s ≡ g k cb top s) where
   laid-same : (cb : Band ℤ) (s : Context) (k : ℕ) (r : Reached) → IsFrom tree.boxes (suc b) k → laid tree w f apart cb s k r ≡ laid tree w g apart cb s k r
   laid-same cb s k r h = by (is_replaced_at tree k) (is_context_root tree k) (is_open_above tree k) refl refl refl
     where
       frame : Frame
-      frame = frame_at tree w k (across cb) cb.left r.top
+      frame = frame_at tree w k (inline_size cb) cb.left r.top
 
       by : (replaced context opens : Bool) → is_replaced_at tree k ≡ replaced → is_context_root tree k ≡ context → is_open_above tree k ≡ opens
           → laid tree w f apart cb s k r ≡ laid tree w g apart cb s k r
@@ -91,7 +91,7 @@ module _ (tree : BoxTree) (w : World) (apart : ℕ → Alone) (f g : ℕ → Ban
       by true e = rw e refl
       by false e = rw e (children-same cb top s (flow_children tree b) (children-from tree b))
 
-module _ (tree : BoxTree) (w : World) (apart : ℕ → Alone) where
+module _ (tree : BoxTree) (w : World) (apart : ℕ → Independent) where
   content-enough : (n m b : ℕ) (cb : Band ℤ) (top : ℤ) (s : Context) → b < length tree.boxes → length tree.boxes ≤ n + b → length tree.boxes ≤ m + b
       → content_to tree w apart n b cb top s ≡ content_to tree w apart m b cb top s
   unfolding content_to

@@ -17,7 +17,7 @@ use Rattle.viz_base.proofs.ListLemmas.{all_append}
 use Rattle.layout_semantics.specs.Blocks.{kind_of}
 use Rattle.layout_semantics.specs.Order.{kids_of, IsOnPage}
 use Rattle.layout_semantics.specs.Horizontal.{Placing, block_flow, shrunk, replaced_block, replaced_shrunk, placing_of, widths}
-use Rattle.layout_semantics.specs.FlowBoxes.{is_replaced_at, is_context_root, is_open_above, across, content_from, flow_children, room}
+use Rattle.layout_semantics.specs.FlowBoxes.{is_replaced_at, is_context_root, is_open_above, inline_size, content_from, flow_children, room}
 use Rattle.layout_semantics.specs.InlineContent.{Item, start, finish, word, space, atomic, forced, float, Sort, a_float, an_atomic, a_break, a_text, an_inline, sort_of, text_of, text_items, letter_before, character_before, items_to, content, float_boxes, inner_items, inner_boxes, holds_inline, is_floated_at, is_inline_level_at, is_zero, has_line}
 use Rattle.layout_semantics.specs.Lengths.{borders, paddings}
 use Rattle.layout_laws.specs.Nested.{items_of_sort}
@@ -152,7 +152,7 @@ module _ (tree : BoxTree) (w : World) where
   abbrev pub inner_width : ℕ → ℤ → ℤ
   inner_width b wide = (widths tree w b wide).content
 
-  band-wide : (left : ℤ) (x : Widths ℤ) → across (content_from left x) ≡ x.content
+  band-wide : (left : ℤ) (x : Widths ℤ) → inline_size (content_from left x) ≡ x.content
   band-wide left x = omega (arith, ints)
 
   room-in : (b k : ℕ) (wide : ℤ) → IsSound b wide → Contains (kids_of tree.boxes b) k → room tree w k ≡ inner_width b wide
@@ -232,9 +232,9 @@ module _ (tree : BoxTree) (w : World) where
   inners-sound wide (forced at ∷ items) a = inners-sound wide items a.1
   inners-sound wide (float at ∷ items) a = (a.0, inners-sound wide items a.1)
 
-  pub inner_boxes-sound : (b : ℕ) (left wide : ℤ) → IsSound b wide → AllByRecursion (λ k. IsSound k (across (content_from left (widths tree w b wide)))) (inner_boxes tree b)
+  pub inner_boxes-sound : (b : ℕ) (left wide : ℤ) → IsSound b wide → AllByRecursion (λ k. IsSound k (inline_size (content_from left (widths tree w b wide)))) (inner_boxes tree b)
   inner_boxes-sound b left wide s =
-      All-implied (λ k. IsSound k (inner_width b wide)) (λ k. IsSound k (across (content_from left (widths tree w b wide)))) (inner_boxes tree b)
+      All-implied (λ k. IsSound k (inner_width b wide)) (λ k. IsSound k (inline_size (content_from left (widths tree w b wide)))) (inner_boxes tree b)
       (λ k h. subst (IsSound k) (sym (band-wide left (widths tree w b wide))) h) (inners-sound (inner_width b wide) (content tree b) (content-sound b wide s))
 
   -- ---- the children in the flow of a box
@@ -264,17 +264,17 @@ module _ (tree : BoxTree) (w : World) where
       by false e = rw e (kids-flow b wide s (kids_of tree.boxes b) (none-level (is_inline_level_at tree) (kids_of tree.boxes b) e)
           (members (Contains (kids_of tree.boxes b)) (kids_of tree.boxes b) (kids_of tree.boxes b) (λ x c. c) (λ x c. c)))
 
-  pub flow-sound : (b : ℕ) (left wide : ℤ) → IsSound b wide → AllByRecursion (λ k. IsFlowKid k (across (content_from left (widths tree w b wide)))) (flow_children tree b)
+  pub flow-sound : (b : ℕ) (left wide : ℤ) → IsSound b wide → AllByRecursion (λ k. IsFlowKid k (inline_size (content_from left (widths tree w b wide)))) (flow_children tree b)
   flow-sound b left wide s =
-      All-implied (λ k. IsFlowKid k (inner_width b wide)) (λ k. IsFlowKid k (across (content_from left (widths tree w b wide)))) (flow_children tree b)
+      All-implied (λ k. IsFlowKid k (inner_width b wide)) (λ k. IsFlowKid k (inline_size (content_from left (widths tree w b wide)))) (flow_children tree b)
       (λ k h. subst (IsFlowKid k) (sym (band-wide left (widths tree w b wide))) h) (children-sound b wide s)
 
   -- ---- the containing block that a lead gives
 
-  pub lead-sound : (cb : Band ℤ) (k : ℕ) → IsFlowKid k (across cb) → is_floated_at tree k ≡ false → enters tree k ≡ true → AllByRecursion (λ j. IsFlowKid j (across (inner_band tree w cb k))) (flow_children tree k)
+  pub lead-sound : (cb : Band ℤ) (k : ℕ) → IsFlowKid k (inline_size cb) → is_floated_at tree k ≡ false → enters tree k ≡ true → AllByRecursion (λ j. IsFlowKid j (inline_size (inner_band tree w cb k))) (flow_children tree k)
   unfolding inner_band
   lead-sound cb k s f i =
       let placed = flow-placing tree k f (s.flow f) (open-whole tree k i) in
-      subst (λ (band : Band ℤ). AllByRecursion (λ j. IsFlowKid j (across band)) (flow_children tree k))
-      (ap (content_from cb.left) (widths-placed tree w k (across cb) block_flow placed))
-      (flow-sound k cb.left (across cb) s.sound)
+      subst (λ (band : Band ℤ). AllByRecursion (λ j. IsFlowKid j (inline_size band)) (flow_children tree k))
+      (ap (content_from cb.left) (widths-placed tree w k (inline_size cb) block_flow placed))
+      (flow-sound k cb.left (inline_size cb) s.sound)

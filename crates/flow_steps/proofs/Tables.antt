@@ -16,20 +16,20 @@ use Rattle.layout_semantics.specs.Order.{roots, IsOnPage}
 use Rattle.layout_semantics.specs.FlowBoxes.{flow_children, room, room_inside, room_to}
 use Rattle.layout_semantics.specs.InlineContent.{is_floated_at, has_line, inner_boxes}
 use Rattle.layout_semantics.specs.Flow as landed
-use Rattle.layout_semantics.specs.Flow.{Alone, Progress}
+use Rattle.layout_semantics.specs.Flow.{Independent, Progress}
 use Rattle.layout_semantics.specs.Page.{page_rendering}
 use Rattle.layout_semantics.proofs.Pages.{forest, root-alone, within-page}
 use Rattle.layout_laws.proofs.Greatest.{filter-implied}
 use Rattle.layout_laws.proofs.Levels.{IsFrom, All-implied, inner_boxes-from}
 use Rattle.layout_laws.proofs.LeadLevels.{children-from}
 use Rattle.layout_laws.proofs.FlowLevels.{flow-is}
-use Rattle.flow_steps.specs.Flow.{alone, content_to, content_of}
+use Rattle.flow_steps.specs.Flow.{independent, content_to, content_of}
 use Rattle.flow_steps.specs.Progress.{context_of}
-use Rattle.flow_steps.specs.Tables.{outside_of, nothing_alone, laid_at, with_box, with_container, table_to, page_boxes}
+use Rattle.flow_steps.specs.Tables.{outside_of, nothing_independent, laid_at, with_box, with_container, table_to, page_boxes}
 use Rattle.flow_steps.proofs.InOrder.{root_no_inline, box_before}
 use Rattle.flow_steps.proofs.Sound.{IsSound, inner_boxes-sound, flow-sound}
 use Rattle.flow_steps.proofs.TopStays.{top-free}
-use Rattle.flow_steps.proofs.FlowSteps.{Follows, band_in, alone-same, step-agrees}
+use Rattle.flow_steps.proofs.FlowSteps.{Follows, band_in, independent-same, step-agrees}
 
 -- ---- boxes of the page, and outside a flow
 
@@ -43,25 +43,25 @@ outside-by tree b P inner flow = by (has_line tree b)
 
 -- ---- one place of a table
 
-laid-same : (table : List (Option Alone)) (k : ℕ) (a : Alone) → k < length table → laid_at (set table k (Some a)) k ≡ a
-laid-same table k a l = ap (λ (o : Option Alone). unwrap_or o nothing_alone) (get_or-set_same table k (Some a) None l)
+laid-same : (table : List (Option Independent)) (k : ℕ) (a : Independent) → k < length table → laid_at (set table k (Some a)) k ≡ a
+laid-same table k a l = ap (λ (o : Option Independent). unwrap_or o nothing_independent) (get_or-set_same table k (Some a) None l)
 
-laid-other : (table : List (Option Alone)) (k j : ℕ) (a : Alone) → j ≢ k → laid_at (set table k (Some a)) j ≡ laid_at table j
-laid-other table k j a n = ap (λ (o : Option Alone). unwrap_or o nothing_alone) (get_or-set_other table k j (Some a) None n)
+laid-other : (table : List (Option Independent)) (k j : ℕ) (a : Independent) → j ≢ k → laid_at (set table k (Some a)) j ≡ laid_at table j
+laid-other table k j a n = ap (λ (o : Option Independent). unwrap_or o nothing_independent) (get_or-set_other table k j (Some a) None n)
 
 module _ (tree : BoxTree) (w : World) where
   -- a box as it is laid out
-  abbrev right : ℕ → Alone
-  right k = landed.alone tree w (landed.flow tree w) k (room tree w k)
+  abbrev right : ℕ → Independent
+  right k = landed.independent tree w (landed.flow tree w) k (room tree w k)
 
   abbrev Sound : ℕ → Type 0
   Sound k = IsSound tree w k (room tree w k)
 
-  abbrev Served : List (Option Alone) → ℕ → Type 0
+  abbrev Served : List (Option Independent) → ℕ → Type 0
   Served table k = right k ≡ laid_at table k
 
   -- what stands outside the flow of each block container from this one on
-  abbrev AllServed : List (Option Alone) → ℕ → Type 0
+  abbrev AllServed : List (Option Independent) → ℕ → Type 0
   AllServed table low = (c : ℕ) → low ≤ c → IsOnPage tree.boxes c → is_inline (kind_of tree c) ≡ false → AllByRecursion (Served table) (outside_of tree c)
 
   own-sound : (c : ℕ) → IsOnPage tree.boxes c → is_inline (kind_of tree c) ≡ false → Sound c
@@ -80,7 +80,7 @@ module _ (tree : BoxTree) (w : World) where
 
   -- ---- the flow by a table
 
-  pub flow-agrees : (table : List (Option Alone)) (low : ℕ) → AllServed table low → (n b : ℕ) (left wide top : ℤ) (p : Progress) → low ≤ b → IsSound tree w b wide → length tree.boxes ≤ n + b
+  pub flow-agrees : (table : List (Option Independent)) (low : ℕ) → AllServed table low → (n b : ℕ) (left wide top : ℤ) (p : Progress) → low ≤ b → IsSound tree w b wide → length tree.boxes ≤ n + b
       → Follows p (landed.flow tree w b (band_in tree w left b wide) top p) (content_to tree w (laid_at table) n b (band_in tree w left b wide) top (context_of p))
   unfolding content_to
   flow-agrees table low served zero b left wide top p l s m = absurd (let within = within-page tree b s.page in omega arith)
@@ -92,24 +92,24 @@ module _ (tree : BoxTree) (w : World) where
       (λ c above page block. served c (omega arith) page block)
       (λ k above within. top-free tree w (laid_at table) n k within (omega arith)) (box_before tree) left wide top p s)
 
-  pub box-same : (table : List (Option Alone)) (low : ℕ) → AllServed table low → (k : ℕ) (wide : ℤ) → low ≤ k → IsSound tree w k wide
-      → landed.alone tree w (landed.flow tree w) k wide ≡ alone tree w (content_of tree w (laid_at table)) k wide
-  box-same table low served k wide l s = alone-same tree w (landed.flow tree w) (content_of tree w (laid_at table)) k wide
+  pub box-same : (table : List (Option Independent)) (low : ℕ) → AllServed table low → (k : ℕ) (wide : ℤ) → low ≤ k → IsSound tree w k wide
+      → landed.independent tree w (landed.flow tree w) k wide ≡ independent tree w (content_of tree w (laid_at table)) k wide
+  box-same table low served k wide l s = independent-same tree w (landed.flow tree w) (content_of tree w (laid_at table)) k wide
       (λ top. flow-agrees table low served (length tree.boxes) k (pos 0) wide top (landed.fresh top) l s (omega arith))
 
   -- ---- the table is filled
 
   -- what it holds already stays
-  pub record IsMore (before after : List (Option Alone)) : Type 0 where
+  pub record IsMore (before after : List (Option Independent)) : Type 0 where
     pub long : length after ≡ length tree.boxes
     pub keeps : (j : ℕ) → Sound j → Served before j → Served after j
 
   -- one box more
-  one-more : (table : List (Option Alone)) (b k : ℕ) → length table ≡ length tree.boxes → AllServed table (suc b) → IsLater b k → IsMore table (with_box tree w table k)
+  one-more : (table : List (Option Independent)) (b k : ℕ) → length table ≡ length tree.boxes → AllServed table (suc b) → IsLater b k → IsMore table (with_box tree w table k)
   one-more table b k long served later = record { long = length-set table k (Some a) ∙ long; keeps = keeps }
     where
-      a : Alone
-      a = alone tree w (content_of tree w (laid_at table)) k (room tree w k)
+      a : Independent
+      a = independent tree w (content_of tree w (laid_at table)) k (room tree w k)
 
       put : Sound k → right k ≡ laid_at (set table k (Some a)) k
       put s = box-same table (suc b) served k (room tree w k) later.from s ∙ sym (laid-same table k a (let within = later.within in omega (arith, long)))
@@ -120,20 +120,20 @@ module _ (tree : BoxTree) (w : World) where
         | inr other ↦ let n : j ≢ k = other in e ∙ sym (laid-other table k j a n)
       ]
 
-  put-right : (table : List (Option Alone)) (b k : ℕ) → length table ≡ length tree.boxes → AllServed table (suc b) → IsLater b k → Sound k → Served (with_box tree w table k) k
+  put-right : (table : List (Option Independent)) (b k : ℕ) → length table ≡ length tree.boxes → AllServed table (suc b) → IsLater b k → Sound k → Served (with_box tree w table k) k
   put-right table b k long served later s =
-      let a = alone tree w (content_of tree w (laid_at table)) k (room tree w k) in
+      let a = independent tree w (content_of tree w (laid_at table)) k (room tree w k) in
       box-same table (suc b) served k (room tree w k) later.from s ∙ sym (laid-same table k a (let within = later.within in omega (arith, long)))
 
-  all-kept : (before after : List (Option Alone)) → IsMore before after → (ks : List ℕ) → AllByRecursion Sound ks → AllByRecursion (Served before) ks → AllByRecursion (Served after) ks
+  all-kept : (before after : List (Option Independent)) → IsMore before after → (ks : List ℕ) → AllByRecursion Sound ks → AllByRecursion (Served before) ks → AllByRecursion (Served after) ks
   all-kept before after m [] s a = tt
   all-kept before after m (k ∷ ks) s a = (m.keeps k s.0 a.0, all-kept before after m ks s.1 a.1)
 
-  still-served : (before after : List (Option Alone)) (low : ℕ) → IsMore before after → AllServed before low → AllServed after low
+  still-served : (before after : List (Option Independent)) (low : ℕ) → IsMore before after → AllServed before low → AllServed after low
   still-served before after low m served c l p i = all-kept before after m (outside_of tree c) (outside-sound c (own-sound c p i)) (served c l p i)
 
   -- boxes one after another
-  all-more : (b : ℕ) (ks : List ℕ) (table : List (Option Alone)) → length table ≡ length tree.boxes → AllServed table (suc b) → AllByRecursion (IsLater b) ks → IsMore table (fold (with_box tree w) table ks)
+  all-more : (b : ℕ) (ks : List ℕ) (table : List (Option Independent)) → length table ≡ length tree.boxes → AllServed table (suc b) → AllByRecursion (IsLater b) ks → IsMore table (fold (with_box tree w) table ks)
   all-more b [] table long served later = record { long = long; keeps = λ j s e. e }
   all-more b (k ∷ ks) table long served later =
       let next = with_box tree w table k in
@@ -141,7 +141,7 @@ module _ (tree : BoxTree) (w : World) where
       let rest = all-more b ks next one.long (still-served table next (suc b) one served) later.1 in
       record { long = rest.long; keeps = λ j s e. rest.keeps j s (one.keeps j s e) }
 
-  all-right : (b : ℕ) (ks : List ℕ) (table : List (Option Alone)) → length table ≡ length tree.boxes → AllServed table (suc b) → AllByRecursion (IsLater b) ks → AllByRecursion Sound ks
+  all-right : (b : ℕ) (ks : List ℕ) (table : List (Option Independent)) → length table ≡ length tree.boxes → AllServed table (suc b) → AllByRecursion (IsLater b) ks → AllByRecursion Sound ks
       → AllByRecursion (Served (fold (with_box tree w) table ks)) ks
   all-right b [] table long served later s = tt
   all-right b (k ∷ ks) table long served later s =
@@ -152,14 +152,14 @@ module _ (tree : BoxTree) (w : World) where
       (rest.keeps k s.0 (put-right table b k long served later.0 s.0), all-right b ks next one.long kept later.1 s.1)
 
   -- the boxes outside the flow of one container more
-  pub record IsFilled (table : List (Option Alone)) (low : ℕ) : Type 0 where
+  pub record IsFilled (table : List (Option Independent)) (low : ℕ) : Type 0 where
     pub long : length table ≡ length tree.boxes
     pub served : AllServed table low
 
-  one-container : (b : ℕ) (table : List (Option Alone)) → IsFilled table (suc b) → IsFilled (with_container tree w table b) b
+  one-container : (b : ℕ) (table : List (Option Independent)) → IsFilled table (suc b) → IsFilled (with_container tree w table b) b
   one-container b table f = by (is_inline (kind_of tree b)) refl
     where
-      full : List (Option Alone)
+      full : List (Option Independent)
       full = fold (with_box tree w) table (outside_of tree b)
 
       more : IsMore table full
@@ -178,7 +178,7 @@ module _ (tree : BoxTree) (w : World) where
         | inr other ↦ let n : c ≢ b = other in still-served table full (suc b) more f.served c (omega arith) p i
       ]
 
-      by : (i : Bool) → is_inline (kind_of tree b) ≡ i → IsFilled (elim i as (λ _. List (Option Alone)) [ true ↦ table | false ↦ full ]) b
+      by : (i : Bool) → is_inline (kind_of tree b) ≡ i → IsFilled (elim i as (λ _. List (Option Independent)) [ true ↦ table | false ↦ full ]) b
       by true e = record { long = f.long; served = skipped e }
       by false e = record { long = more.long; served = whole }
 
@@ -190,7 +190,7 @@ module _ (tree : BoxTree) (w : World) where
       subst (λ (x : ℕ). IsFilled (with_container tree w (table_to tree w count) x) low) (sym b)
       (one-container low (table_to tree w count) (filled count (suc low) (omega arith)))
 
-  abbrev whole_table : List (Option Alone)
+  abbrev whole_table : List (Option Independent)
   whole_table = table_to tree w (length tree.boxes)
 
   pub table-served : AllServed whole_table 0
@@ -203,10 +203,10 @@ module _ (tree : BoxTree) (w : World) where
   root-room = ap (λ (o : Option ℕ). option_map_or (λ parent. room_inside tree w parent (room_to 0 tree w parent)) o (pos (64 * w.w))) (root-alone tree)
 
   abbrev rendered : List BoxNode → List (Placed ℤ)
-  rendered l = (elim l as (λ _. Rendering ℤ) [ [] ↦ record { boxes = [] } | root ∷ rest ↦ record { boxes = (landed.whole_alone tree w 0 (pos (64 * w.w))).boxes } ]).boxes
+  rendered l = (elim l as (λ _. Rendering ℤ) [ [] ↦ record { boxes = [] } | root ∷ rest ↦ record { boxes = (landed.whole_independent tree w 0 (pos (64 * w.w))).boxes } ]).boxes
 
   abbrev stepped : List BoxNode → List (Placed ℤ)
-  stepped l = elim l as (λ _. List (Placed ℤ)) [ [] ↦ [] | root ∷ rest ↦ (alone tree w (content_of tree w (laid_at whole_table)) 0 (pos (64 * w.w))).boxes ]
+  stepped l = elim l as (λ _. List (Placed ℤ)) [ [] ↦ [] | root ∷ rest ↦ (independent tree w (content_of tree w (laid_at whole_table)) 0 (pos (64 * w.w))).boxes ]
 
   pub page-same : (page_rendering tree w).boxes ≡ page_boxes tree w
   page-same = by tree.boxes refl
@@ -216,5 +216,5 @@ module _ (tree : BoxTree) (w : World) where
       by (b ∷ bs) e =
           let page : IsOnPage tree.boxes 0 = IsOnPage.root 0 (subst (λ (l : List BoxNode). Contains (roots l) 0) (sym e) (0, omega arith, refl)) in
           ap rendered e
-          ∙ ap (λ (a : Alone). a.boxes) (box-same whole_table 0 table-served 0 (pos (64 * w.w)) (omega arith) (record { page = page; room = sym root-room; block = root_no_inline tree }))
+          ∙ ap (λ (a : Independent). a.boxes) (box-same whole_table 0 table-served 0 (pos (64 * w.w)) (omega arith) (record { page = page; room = sym root-room; block = root_no_inline tree }))
           ∙ sym (ap stepped e)

@@ -10,9 +10,9 @@ use Rattle.viz_base.specs.declared.worlds.World.{World}
 use Rattle.viz_base.proofs.Truths.{and_first, and_second}
 use Rattle.layout_semantics.specs.Floats.{FloatBox}
 use Rattle.layout_semantics.specs.Rectangles.{Frame, content_top}
-use Rattle.layout_semantics.specs.FlowBoxes.{is_replaced_at, is_context_root, is_open_above, may_collapse_through, flow_children, across, content_from}
+use Rattle.layout_semantics.specs.FlowBoxes.{is_replaced_at, is_context_root, is_open_above, may_collapse_through, flow_children, inline_size, content_from}
 use Rattle.layout_semantics.specs.InlineContent.{is_floated_at, has_line}
-use Rattle.layout_semantics.specs.Flow.{Cleared, Alone, Reached}
+use Rattle.layout_semantics.specs.Flow.{Cleared, Independent, Reached}
 use Rattle.layout_semantics.specs.Leads.{none_passed, is_up_to}
 use Rattle.layout_semantics.specs.Clearance.{Base, hangs, stands}
 use Rattle.layout_laws.proofs.Levels.{IsFrom}
@@ -52,7 +52,7 @@ closed-free tree w c b run ws (cleared d y) m a = a
 abbrev pub IsTop : Step → Type 0
 IsTop q = is_at_top q.context.standing ≡ true
 
-module _ (tree : BoxTree) (w : World) (apart : ℕ → Alone) where
+module _ (tree : BoxTree) (w : World) (apart : ℕ → Independent) where
   -- whatever the run, the floats that wait and what is asked of them, the way forward through what is in a box
   abbrev FreeWays : Cleared → ℕ → Type 0
   FreeWays c b = (size : Waiting ℤ → Extent ℤ) (base : Base) (floats : List FloatBox) (least : Option ℤ) (p : ℕ → Bool) (m : ℕ) (band : Band ℤ) (run : Run ℤ) (ws : List (Waiting ℤ))
@@ -109,13 +109,13 @@ module _ (tree : BoxTree) (w : World) (apart : ℕ → Alone) where
     pub record IsThrough (cb : Band ℤ) (s : Context) (k : ℕ) (r : Reached) : Type 0 where
       pub opens : is_open_above tree k ≡ true
       pub collapses : may_collapse_through tree k ≡ true
-      pub top : let f = frame_at tree w k (across cb) cb.left r.top in IsTop (content k (content_from cb.left f.x) (content_top f) (opened tree w content apart s f (at_top f.corner.y r.cleared)))
+      pub top : let f = frame_at tree w k (inline_size cb) cb.left r.top in IsTop (content k (content_from cb.left f.x) (content_top f) (opened tree w content apart s f (at_top f.corner.y r.cleared)))
 
     pub laid-through : (cb : Band ℤ) (s : Context) (k : ℕ) (r : Reached) → IsTopFree content k → (laid tree w content apart cb s k r).through ≡ true → IsThrough cb s k r
     laid-through cb s k r free h = by (is_replaced_at tree k) (is_context_root tree k) (is_open_above tree k) (may_collapse_through tree k) refl refl refl refl h
       where
         f : Frame
-        f = frame_at tree w k (across cb) cb.left r.top
+        f = frame_at tree w k (inline_size cb) cb.left r.top
 
         by : (d c o t : Bool) → is_replaced_at tree k ≡ d → is_context_root tree k ≡ c → is_open_above tree k ≡ o → may_collapse_through tree k ≡ t
             → (laid tree w content apart cb s k r).through ≡ true → IsThrough cb s k r
@@ -215,7 +215,7 @@ module _ (tree : BoxTree) (w : World) (apart : ℕ → Alone) where
             let clear = at-cleared cb s k y c (sym (ap (λ (x : Reached). x.clears) reach) ∙ a.1) in
             let cleared_is : r.cleared ≡ c = ap (λ (x : Reached). x.cleared) reach ∙ clear.0 in
             let t = laid-through cb s k r free a.0 in
-            let frame = frame_at tree w k (across cb) cb.left r.top in
+            let frame = frame_at tree w k (inline_size cb) cb.left r.top in
             let inner = opened tree w content apart s frame (at_top frame.corner.y r.cleared) in
             let lines = free.lines (content_from cb.left frame.x) (content_top frame) inner t.top in
             let ways = free.free (content_from cb.left frame.x) (content_top frame) inner frame.corner.y r.cleared refl t.top in
@@ -280,7 +280,7 @@ module _ (tree : BoxTree) (w : World) (apart : ℕ → Alone) where
       → (way_to tree w size base floats least p m cb k run ws).end ≡ goes_on
   goes-through content cb s k r free h size base floats least p m run ws same other =
       let t = laid-through content cb s k r free h in
-      let frame = frame_at tree w k (across cb) cb.left r.top in
+      let frame = frame_at tree w k (inline_size cb) cb.left r.top in
       let inner = opened tree w content apart s frame (at_top frame.corner.y r.cleared) in
       let lines = free.lines (content_from cb.left frame.x) (content_top frame) inner t.top in
       let ways = free.free (content_from cb.left frame.x) (content_top frame) inner frame.corner.y r.cleared refl t.top in

@@ -22,14 +22,14 @@ use Rattle.layout_semantics.specs.Extremes.{greatest_from}
 use Rattle.layout_semantics.specs.Floats.{FloatBox, Floating, floating, float_spot, with_float_at}
 use Rattle.layout_semantics.specs.Verticals.{Verticals, verticals}
 use Rattle.layout_semantics.specs.Rectangles.{Frame, content_top, placed_box, shifted, outer_extent}
-use Rattle.layout_semantics.specs.FlowBoxes.{is_replaced_at, is_context_root, is_open_above, may_collapse_through, joins_last_child, flow_children, across, content_from}
+use Rattle.layout_semantics.specs.FlowBoxes.{is_replaced_at, is_context_root, is_open_above, may_collapse_through, joins_last_child, flow_children, inline_size, content_from}
 use Rattle.layout_semantics.specs.Leads.{none_passed, is_up_to}
 use Rattle.layout_semantics.specs.Lengths.{own}
 use Rattle.layout_semantics.specs.Replaced.{replaced_size}
 use Rattle.layout_semantics.specs.Horizontal.{widths}
 use Rattle.layout_semantics.specs.InlineContent.{is_floated_at, has_line, inner_boxes}
 use Rattle.layout_semantics.specs.Lines.{LineList}
-use Rattle.layout_semantics.specs.Flow.{Cleared, Alone, Reached, raised, content_height}
+use Rattle.layout_semantics.specs.Flow.{Cleared, Independent, Reached, raised, content_height}
 use Rattle.layout_semantics.specs.Clearance.{Base, hangs, stands, Ground, on_ground}
 use Rattle.lay_line.specs.steps.Laying.{lines_by_steps}
 use Rattle.lay_margin.specs.declared.runs.Run.{Run}
@@ -88,11 +88,11 @@ met reached run = record { reached = reached; run = run }
 
 -- the outer size of a float that waits, where `apart` holds the boxes that are laid out in coordinates of
 -- their own, by their numbers
-unfoldable pub size_in : (ℕ → Alone) → Waiting ℤ → Extent ℤ
+unfoldable pub size_in : (ℕ → Independent) → Waiting ℤ → Extent ℤ
 size_in apart f = (apart f.at).size
 
 -- what stays the same along the way forward from a box in a context
-abbrev pub ground_of : BoxTree → World → (ℕ → Alone) → Base → Context → Ground
+abbrev pub ground_of : BoxTree → World → (ℕ → Independent) → Base → Context → Ground
 ground_of tree w apart base s = on_ground tree w (size_in apart) base s.floats s.least
 
 -- ---- heights
@@ -169,25 +169,25 @@ module _ (tree : BoxTree) (w : World) where
   module _ (content : ℕ → Band ℤ → ℤ → Context → Step) where
     -- ---- a box that starts a context, at the corner of coordinates of its own
 
-    abbrev pub whole : Placed ℤ → Option ℤ → List (Placed ℤ) → Alone
+    abbrev pub whole : Placed ℤ → Option ℤ → List (Placed ℤ) → Independent
     whole p baseline boxes = record { size = outer_extent p; baseline = baseline; boxes = p ∷ boxes }
 
-    abbrev pub alone : ℕ → ℤ → Alone
-    alone b room = by_sort (corner_frame b room) (is_replaced_at tree b)
+    abbrev pub independent : ℕ → ℤ → Independent
+    independent b room = by_sort (corner_frame b room) (is_replaced_at tree b)
       where
-        by_content : Frame → Step → Alone
+        by_content : Frame → Step → Independent
         by_content f end = whole (context_box b f end.context) end.context.baseline end.boxes
 
-        by_sort : Frame → Bool → Alone
+        by_sort : Frame → Bool → Independent
         by_sort f true = whole (replaced_box b room f) None []
         by_sort f false = by_content f (content b (content_from (pos 0) f.x) (content_top f) (fresh (content_top f)))
 
   -- `apart` holds the boxes that are laid out in coordinates of their own, by their numbers
-  module _ (content : ℕ → Band ℤ → ℤ → Context → Step) (apart : ℕ → Alone) where
+  module _ (content : ℕ → Band ℤ → ℤ → Context → Step) (apart : ℕ → Independent) where
     -- ---- floats
 
     -- a float that is laid out, and whose place is at y, among the floats of the context
-    abbrev pub float_placed : Band ℤ → Context → ℕ → ℤ → Alone → Step
+    abbrev pub float_placed : Band ℤ → Context → ℕ → ℤ → Independent → Step
     float_placed cb s k y a = by_float (floating tree k a.size cb)
       where
         by_spot : Floating → Spot ℤ → Step
@@ -278,10 +278,10 @@ module _ (tree : BoxTree) (w : World) where
             (block_box b f end.context)
 
     abbrev pub laid : Band ℤ → Context → ℕ → Reached → Laid
-    laid cb s b r = by_sort (frame_at b (across cb) cb.left r.top) (is_replaced_at tree b) (is_context_root tree b)
+    laid cb s b r = by_sort (frame_at b (inline_size cb) cb.left r.top) (is_replaced_at tree b) (is_context_root tree b)
       where
         by_sort : Frame → Bool → Bool → Laid
-        by_sort f true any = laid_replaced (across cb) s b f
+        by_sort f true any = laid_replaced (inline_size cb) s b f
         by_sort f false true = laid_context cb s b f
         by_sort f false false = laid_block cb s b r.cleared f
 
@@ -326,7 +326,7 @@ module _ (tree : BoxTree) (w : World) where
     -- ---- lines
 
     -- the outer size of a float or of an atomic inline-level box, with its baseline (10.8.1)
-    abbrev pub inner_of : ℕ → Alone → Inner ℤ
+    abbrev pub inner_of : ℕ → Independent → Inner ℤ
     inner_of k a = by_baseline
         (is_floated_at tree k || is_replaced_at tree k || own tree k (λ (s : Style). s.clips) false) a.baseline
       where
@@ -365,7 +365,7 @@ module _ (tree : BoxTree) (w : World) where
         by_sort true = line_content b cb top s
         by_sort false = children (child cb top) s (flow_children tree b)
 
-  module _ (apart : ℕ → Alone) where
+  module _ (apart : ℕ → Independent) where
     -- down to so many levels
     unfoldable pub content_to : ℕ → ℕ → Band ℤ → ℤ → Context → Step
     content_to zero b cb top s = step s []

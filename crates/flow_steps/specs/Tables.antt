@@ -10,8 +10,8 @@ use Rattle.layout_semantics.specs.Blocks.{kind_of}
 use Rattle.layout_semantics.specs.FlowBoxes.{flow_children, content_from, room}
 use Rattle.layout_semantics.specs.Horizontal.{widths}
 use Rattle.layout_semantics.specs.InlineContent.{is_floated_at, has_line, inner_boxes}
-use Rattle.layout_semantics.specs.Flow.{Alone}
-use Rattle.flow_steps.specs.Flow.{alone, content_of}
+use Rattle.layout_semantics.specs.Flow.{Independent}
+use Rattle.flow_steps.specs.Flow.{independent, content_of}
 
 -- what stands in a block container and not in its flow: the floats and
 -- atomic boxes of its lines, or the floats between its blocks
@@ -21,20 +21,20 @@ outside_of tree b =
 
 -- ---- the table
 
-abbrev pub nothing_alone : Alone
-nothing_alone = record { size = record { width = pos 0; height = pos 0 }; baseline = None; boxes = [] }
+abbrev pub nothing_independent : Independent
+nothing_independent = record { size = record { width = pos 0; height = pos 0 }; baseline = None; boxes = [] }
 
-abbrev pub laid_at : List (Option Alone) → ℕ → Alone
-laid_at table k = unwrap_or (get_or table k None) nothing_alone
+abbrev pub laid_at : List (Option Independent) → ℕ → Independent
+laid_at table k = unwrap_or (get_or table k None) nothing_independent
 
 module _ (tree : BoxTree) (w : World) where
   -- with one box more, laid out where its containing block is as wide as the tree says
-  abbrev pub with_box : List (Option Alone) → ℕ → List (Option Alone)
+  abbrev pub with_box : List (Option Independent) → ℕ → List (Option Independent)
   with_box table k =
-      set table k (Some (alone tree w (content_of tree w (laid_at table)) k (room tree w k)))
+      set table k (Some (independent tree w (content_of tree w (laid_at table)) k (room tree w k)))
 
   -- with those of a box; an inline box is no block container
-  abbrev pub with_container : List (Option Alone) → ℕ → List (Option Alone)
+  abbrev pub with_container : List (Option Independent) → ℕ → List (Option Independent)
   with_container table b =
       elim (is_inline (kind_of tree b)) [ true ↦ table | false ↦ fold with_box table (outside_of tree b) ]
 
@@ -43,7 +43,7 @@ module _ (tree : BoxTree) (w : World) where
   inside_of left b = content_from left (widths tree w b (room tree w b))
 
   -- of the last so many boxes
-  unfoldable pub table_to : ℕ → List (Option Alone)
+  unfoldable pub table_to : ℕ → List (Option Independent)
   table_to zero = replicate (length tree.boxes) None
   table_to (suc count) = with_container (table_to count) (length tree.boxes - suc count)
 
@@ -54,5 +54,5 @@ module _ (tree : BoxTree) (w : World) where
       by_boxes : List BoxNode → List (Placed ℤ)
       by_boxes [] = []
       by_boxes (root ∷ rest) =
-          (alone tree w (content_of tree w (laid_at (table_to (length tree.boxes)))) 0
+          (independent tree w (content_of tree w (laid_at (table_to (length tree.boxes)))) 0
           (pos (64 * w.w))).boxes

@@ -7,7 +7,7 @@ ghost use Rattle.viz_base.specs.declared.layouts.Waiting.{Waiting};
 ghost use Rattle.layout_semantics.specs.Blocks.{kind_of};
 ghost use Rattle.layout_semantics.specs.Clearance.{Ground, hangs, stands, on_ground, resolve};
 ghost use Rattle.layout_semantics.specs.Floats.{FloatBox};
-ghost use Rattle.layout_semantics.specs.Flow.{Alone, Progress, flow, whole_alone};
+ghost use Rattle.layout_semantics.specs.Flow.{Independent, Progress, flow, whole_independent};
 ghost use Rattle.layout_semantics.specs.Leads.{is_up_to, none_passed};
 ghost use Rattle.layout_semantics.specs.FlowBoxes.{room};
 ghost use Rattle.layout_semantics.specs.Order.{IsOnPage};
@@ -66,7 +66,7 @@ pub fn a_way_forward_comes_from_inside(tree: &BoxTree, at: usize)
 /// flow holds.
 pub fn the_steps_of_a_content_come_from_inside(tree: &BoxTree, world: World, at: usize)
     requires within { at < length tree.now.boxes }
-    ensures { (apart : ℕ → Alone) (cb : Band ℤ) (top : ℤ) (s : Context)
+    ensures { (apart : ℕ → Independent) (cb : Band ℤ) (top : ℤ) (s : Context)
         → content_of tree.now world apart at cb top s ≡ content_step tree.now world
         (content_of tree.now world apart) apart at cb top s }
 {}
@@ -76,7 +76,7 @@ pub fn the_steps_of_a_content_come_from_inside(tree: &BoxTree, world: World, at:
 pub fn what_stands_outside_the_flow_is_laid_out_once(tree: &BoxTree, world: World, at: usize)
     requires on_page { IsOnPage tree.now.boxes at }
     requires container { is_inline (kind_of tree.now at) ≡ false }
-    ensures { AllByRecursion (λ k. whole_alone tree.now world k (room tree.now world k)
+    ensures { AllByRecursion (λ k. whole_independent tree.now world k (room tree.now world k)
         ≡ laid_at (table_to tree.now world (length tree.now.boxes)) k) (outside_of tree.now at) }
 {}
 

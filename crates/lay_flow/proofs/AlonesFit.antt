@@ -3,30 +3,30 @@ use Rattle.std.proofs.Common.{◌≡◌, ℕ, ◌*◌, ◌<◌, ◌≤◌, ◌^�
 use Rattle.std.proofs.lemmas.Int.{ints}
 use Rattle.viz_base.specs.declared.trees.BoxTree.{BoxTree}
 use Rattle.viz_base.specs.declared.worlds.World.{World}
-use Rattle.layout_semantics.specs.Flow.{Alone}
+use Rattle.layout_semantics.specs.Flow.{Independent}
 use Rattle.layout_semantics.specs.FlowBoxes.{is_replaced_at, flow_children, content_from, room}
 use Rattle.layout_semantics.specs.Rectangles.{Frame, content_top}
 use Rattle.flow_steps.specs.Flow.{corner_frame, fresh}
 use Rattle.flow_steps.proofs.Sound.{IsSound}
 use Rattle.page_limits.specs.Bounds.{Bounds, AreInside, all_around, grown, IsBandIn, IsLevelIn, IsQuadIn}
-use Rattle.page_limits.specs.Boxes.{AreSidesSmall, AreWidthsSmall, IsAloneIn, IsWhole}
+use Rattle.page_limits.specs.Boxes.{AreSidesSmall, AreWidthsSmall, IsIndependentIn, IsWhole}
 use Rattle.page_limits.specs.Loads.{greatest_length}
 use Rattle.page_limits.specs.Rises.{content_rise}
 use Rattle.page_limits.proofs.BoxesWithin.{top-in, none-low}
 use Rattle.page_limits.proofs.FlowWithin.{IsContextIn}
 use Rattle.page_limits.proofs.Levels.{inside-more, level-wider, quad-wider}
-use Rattle.lay_flow.specs.AloneFits.{AloneFits, own_end}
+use Rattle.lay_flow.specs.IndependentFits.{IndependentFits, own_end}
 use Rattle.lay_flow.specs.Fits.{near}
 use Rattle.lay_flow.specs.Low.{IsContextLow, IsFrameLow}
 use Rattle.lay_flow.proofs.PageFits.{IsBoxFit, IsPageFit}
 use Rattle.lay_flow.specs.WalkFits.{WalkFits, before_content, inner_end}
-use Rattle.lay_flow.specs.steps.Flow.{corner_of, root_of, context_alone}
-use Rattle.lay_flow.proofs.AloneBoxes.{alone-context}
-use Rattle.lay_flow.proofs.TablesWithin.{AreBounded, fine, boxes-small, lines-small, turned, rise_by, rise-far, alone-known}
+use Rattle.lay_flow.specs.steps.Flow.{corner_of, root_of, context_independent}
+use Rattle.lay_flow.proofs.IndependentBoxes.{independent-context}
+use Rattle.lay_flow.proofs.TablesWithin.{AreBounded, fine, boxes-small, lines-small, turned, rise_by, rise-far, independent-known}
 use Rattle.lay_flow.proofs.WalkWithin.{ContentIn}
 use Rattle.lay_flow.proofs.WalkPlaces.{walk-fits, content-end}
 
-module _ (tree : BoxTree) (w : World) (page : IsPageFit tree w) (apart : ℕ → Alone) (a : AreBounded tree w page apart)
+module _ (tree : BoxTree) (w : World) (page : IsPageFit tree w) (apart : ℕ → Independent) (a : AreBounded tree w page apart)
     (k : ℕ) (l : k < length tree.boxes) (i : IsSound tree w k (room tree w k)) (q : IsWhole tree k) where
   fit : IsBoxFit tree w k
   fit = page.each k i.page q
@@ -109,18 +109,18 @@ module _ (tree : BoxTree) (w : World) (page : IsPageFit tree w) (apart : ℕ →
 
   margin : is_replaced_at tree k ≡ false
       → IsQuadIn near (root_of tree w k (corner_of tree w k (room tree w k)) (own_end tree w apart k (corner_of tree w k (room tree w k)))).margin
-  unfolding context_alone
+  unfolding context_independent
   margin e =
       let own = rise_by tree w page apart a k in
       let wide = room tree w k in
       let f = corner_of tree w k wide in
-      let known = subst (IsAloneIn own greatest_length) (sym (alone-context tree w apart k wide e)) (alone-known tree w page apart a k l wide i q) in
+      let known = subst (IsIndependentIn own greatest_length) (sym (independent-context tree w apart k wide e)) (independent-known tree w page apart a k l wide i q) in
       quad-wider own near (root_of tree w k f (own_end tree w apart k f)).margin
       (inside-more own (all_around (2 ^ 72)) near (rise-far tree w page apart a k l) (record { up = omega arith; down = omega arith; aside = omega arith })) (known.boxes.0).margin
 
-  pub alone-fits : AloneFits tree w apart k (room tree w k)
+  pub independent-fits : IndependentFits tree w apart k (room tree w k)
   unfolding corner_of
-  alone-fits = record {
+  independent-fits = record {
     shape = fit.shape;
     frame = frame-low;
     replaced = fit.replaced;

@@ -3,7 +3,7 @@ use Rattle.std.proofs.Common.{◌^◌, ℤ, pos, ◌+ℤ◌, ◌-ℤ◌, [], ◌
 use Rattle.viz_base.specs.declared.layouts.Band.{Band}
 use Rattle.viz_base.specs.declared.layouts.Widths.{Widths}
 use Rattle.viz_calc.specs.State.{AllSmall}
-use Rattle.layout_semantics.specs.FlowBoxes.{across}
+use Rattle.layout_semantics.specs.FlowBoxes.{inline_size}
 use Rattle.layout_semantics.specs.Rectangles.{Frame}
 use Rattle.lay_margin.specs.Fitting.{content_way}
 use Rattle.lay_frame.specs.Fitting.{KeptFits}
@@ -28,5 +28,5 @@ band-fits left x l s =
 pub kept-fits : (f : Frame) → IsFrameLow f → KeptFits f
 kept-fits f low = (zero-fits, place-fits f (pos 0) low (zero-small (2 ^ 94)))
 
-pub across-fits : (cb : Band ℤ) → IsBandLow cb → AllSmall (across cb ∷ [])
-across-fits cb low = fit (2 ^ 91) (cb.right -ℤ cb.left) (less (2 ^ 90) (2 ^ 90) (2 ^ 91) cb.right cb.left low.right low.left (omega arith)) (omega arith)
+pub inline_size-fits : (cb : Band ℤ) → IsBandLow cb → AllSmall (inline_size cb ∷ [])
+inline_size-fits cb low = fit (2 ^ 91) (cb.right -ℤ cb.left) (less (2 ^ 90) (2 ^ 90) (2 ^ 91) cb.right cb.left low.right low.left (omega arith)) (omega arith)

@@ -7,7 +7,7 @@ use Rattle.viz_base.specs.declared.worlds.World.{World}
 use Rattle.viz_calc.specs.State.{AllSmall}
 use Rattle.layout_laws.proofs.Greatest.{greatest_from-any}
 use Rattle.layout_laws.proofs.Levels.{All-implied}
-use Rattle.layout_semantics.specs.DefiniteHeights.{given_height, held_height}
+use Rattle.layout_semantics.specs.DefiniteHeights.{given_height, clamped_height}
 use Rattle.layout_semantics.specs.Floats.{FloatBox}
 use Rattle.layout_semantics.specs.Flow.{content_height}
 use Rattle.layout_semantics.specs.Rectangles.{Frame, content_top, border_width, border_height, outset, inset, placed_box}
@@ -16,13 +16,13 @@ use Rattle.lay_margin.specs.Runs.{collapse}
 use Rattle.lay_frame.specs.Fitting.{top_way, BorderFits, AroundFits, PlaceFits, border_of}
 use Rattle.page_limits.proofs.Levels.{All-map}
 use Rattle.page_limits.specs.Bounds.{IsQuadIn, IsFloatIn}
-use Rattle.page_limits.specs.Boxes.{IsHeightHeld}
+use Rattle.page_limits.specs.Boxes.{IsHeightClamped}
 use Rattle.page_limits.specs.Inline.{IsSmall}
 use Rattle.flow_steps.specs.Flow.{Standing, at_top, below, Context, next_edge, block_height}
 use Rattle.lay_flow.specs.Low.{reach, IsLevelLow, IsRunLow, IsStandingLow, IsContextLow, IsFrameLow}
 use Rattle.lay_flow.specs.Fits.{IsNear, IsHeightFit, near}
 use Rattle.lay_flow.specs.steps.Flow.{tall_of}
-use Rattle.lay_flow.proofs.Sizes.{wider, fit, plus, less, zero-small, held-small, level, IsQuadSmall, quad-fits, size-quad, run-small}
+use Rattle.lay_flow.proofs.Sizes.{wider, fit, plus, less, zero-small, clamped-small, level, IsQuadSmall, quad-fits, size-quad, run-small}
 
 -- ---- where boxes stand
 
@@ -59,15 +59,15 @@ block-small m k true top (below edge run true) t low l = less (2 ^ 92) m k (edge
 block-small m k false top (below edge run stuck) t low l = less (2 ^ 92) m k (edge +ℤ collapse run) top (edge-small edge run low.0 low.1) t l
 
 -- a height that is given, and one of the content
-pub known-tall : (tree : BoxTree) (w : World) (b : ℕ) (h : ℤ) → IsHeightFit tree w b → given_height tree w b ≡ Some h → IsSmall (2 ^ 94) (held_height tree w b h)
+pub known-tall : (tree : BoxTree) (w : World) (b : ℕ) (h : ℤ) → IsHeightFit tree w b → given_height tree w b ≡ Some h → IsSmall (2 ^ 94) (clamped_height tree w b h)
 known-tall tree w b h fit given =
-    let same : content_height tree w b (pos 0) ≡ held_height tree w b h = ap (λ o. held_height tree w b (unwrap_or o (pos 0))) given in
-    held-small (2 ^ 94) (pos 0) (held_height tree w b h) (subst (IsHeightHeld (2 ^ 90) (pos 0)) same (fit.held (pos 0))) (zero-small (2 ^ 94)) (omega arith)
+    let same : content_height tree w b (pos 0) ≡ clamped_height tree w b h = ap (λ o. clamped_height tree w b (unwrap_or o (pos 0))) given in
+    clamped-small (2 ^ 94) (pos 0) (clamped_height tree w b h) (subst (IsHeightClamped (2 ^ 90) (pos 0)) same (fit.clamped (pos 0))) (zero-small (2 ^ 94)) (omega arith)
 
-pub content-tall : (tree : BoxTree) (w : World) (b : ℕ) (h : ℤ) → IsHeightFit tree w b → given_height tree w b ≡ None → IsSmall (2 ^ 94) h → IsSmall (2 ^ 94) (held_height tree w b h)
+pub content-tall : (tree : BoxTree) (w : World) (b : ℕ) (h : ℤ) → IsHeightFit tree w b → given_height tree w b ≡ None → IsSmall (2 ^ 94) h → IsSmall (2 ^ 94) (clamped_height tree w b h)
 content-tall tree w b h fit given small =
-    let same : content_height tree w b h ≡ held_height tree w b h = ap (λ o. held_height tree w b (unwrap_or o h)) given in
-    held-small (2 ^ 94) h (held_height tree w b h) (subst (IsHeightHeld (2 ^ 90) h) same (fit.held h)) small (omega arith)
+    let same : content_height tree w b h ≡ clamped_height tree w b h = ap (λ o. clamped_height tree w b (unwrap_or o h)) given in
+    clamped-small (2 ^ 94) h (clamped_height tree w b h) (subst (IsHeightClamped (2 ^ 90) h) same (fit.clamped h)) small (omega arith)
 
 -- ---- a box before its height
 

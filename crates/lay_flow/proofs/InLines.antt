@@ -9,7 +9,7 @@ use Rattle.viz_base.specs.declared.layouts.Inner.{Inner}
 use Rattle.viz_base.specs.declared.trees.BoxTree.{BoxTree}
 use Rattle.viz_base.specs.declared.worlds.World.{World}
 use Rattle.viz_calc.specs.World.{Reading}
-use Rattle.layout_semantics.specs.Flow.{Alone, raised}
+use Rattle.layout_semantics.specs.Flow.{Independent, raised}
 use Rattle.layout_semantics.specs.InlineContent.{inner_boxes}
 use Rattle.layout_semantics.specs.LineHeights.{InlineContext}
 use Rattle.layout_semantics.specs.Lists.{room_for}
@@ -60,7 +60,7 @@ one-number go xs k d s next lt step = sym step ∙ sym (at_drop_more (λ l. go l
 
 -- ---- the table of what stands on lines
 
-module _ (tree : BoxTree) (w : World) (apart : ℕ → Alone) where
+module _ (tree : BoxTree) (w : World) (apart : ℕ → Independent) where
   fold-entries : (ks : List ℕ) (table : List (Option (Inner ℤ)))
       → filled_table tree w apart table ks ≡ fold (λ table (entry : ℕ × Inner ℤ). slice_set table entry.0 (Some entry.1)) table (map (λ k. (k, inner_of tree w apart k)) ks)
   fold-entries [] table = refl
@@ -112,7 +112,7 @@ module _ (tree : BoxTree) (w : World) (apart : ℕ → Alone) where
   boxes-after b cb top s l is = ap (λ (x : LineList). flat_map (entry_of tree w apart) x.entries) is
 
 -- the floats of lines are placed by the rules
-pub lines-placed : (tree : BoxTree) (w : World) (apart : ℕ → Alone) (b : ℕ) (cb : Band ℤ) (top : ℤ) (s : Context) → ArePlacedAfter s.floats (lines_of tree w apart b cb top s).floats
+pub lines-placed : (tree : BoxTree) (w : World) (apart : ℕ → Independent) (b : ℕ) (cb : Band ℤ) (top : ℤ) (s : Context) → ArePlacedAfter s.floats (lines_of tree w apart b cb top s).floats
 unfolding lines_of
 lines-placed tree w apart b cb top s =
     let c : InlineContext = record { tree = tree; world = w; container = b; inner = inner_table tree w apart b; cb = cb } in

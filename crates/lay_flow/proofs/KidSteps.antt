@@ -4,9 +4,9 @@ use Rattle.std.specs.List.{AllByRecursion}
 use Rattle.viz_base.specs.declared.layouts.Band.{Band}
 use Rattle.viz_base.specs.declared.trees.BoxTree.{BoxTree}
 use Rattle.viz_base.specs.declared.worlds.World.{World}
-use Rattle.layout_semantics.specs.Flow.{Alone}
+use Rattle.layout_semantics.specs.Flow.{Independent}
 use Rattle.flow_steps.specs.Flow.{Context, followed}
-use Rattle.lay_flow.specs.AloneFits.{BoxAddedFits, BoxesAddedFit}
+use Rattle.lay_flow.specs.IndependentFits.{BoxAddedFits, BoxesAddedFit}
 use Rattle.lay_flow.specs.steps.Flow.{child_of, children_of, with_box, with_boxes}
 
 pub others-hold : (P : ℕ → Type 0) (ks : List ℕ) (i : ℕ) → i < length ks → AllByRecursion P (drop i ks) → AllByRecursion P (drop (i + 1) ks)
@@ -15,7 +15,7 @@ others-hold P ks i l a =
     subst (λ (n : ℕ). AllByRecursion P (drop n ks)) next (subst (λ (x : List ℕ). AllByRecursion P x) (drop-cons ks i 0 l) a).1
 
 module _ (tree : BoxTree) (w : World) where
-  pub kids-next : (apart : ℕ → Alone) (cb : Band ℤ) (top : ℤ) (s : Context) (ks : List ℕ) (i : ℕ) → i < length ks → let k = slice_index_or ks i 0 in
+  pub kids-next : (apart : ℕ → Independent) (cb : Band ℤ) (top : ℤ) (s : Context) (ks : List ℕ) (i : ℕ) → i < length ks → let k = slice_index_or ks i 0 in
       children_of tree w apart cb top s (drop i ks) ≡ followed (child_of tree w apart cb top s k) (children_of tree w apart cb top (child_of tree w apart cb top s k).context (drop (i + 1) ks))
   kids-next apart cb top s ks i l =
       let next : suc i ≡ i + 1 = omega arith in
@@ -23,14 +23,14 @@ module _ (tree : BoxTree) (w : World) where
       ap (λ (x : List ℕ). children_of tree w apart cb top s x) (drop-cons ks i 0 l)
       ∙ ap (λ (n : ℕ). followed one (children_of tree w apart cb top one.context (drop n ks))) next
 
-  pub boxes-next : (table : List (Option Alone)) (ks : List ℕ) (i : ℕ) → i < length ks
+  pub boxes-next : (table : List (Option Independent)) (ks : List ℕ) (i : ℕ) → i < length ks
       → with_boxes tree w table (drop i ks) ≡ with_boxes tree w (with_box tree w table (slice_index_or ks i 0)) (drop (i + 1) ks)
   boxes-next table ks i l =
       let next : suc i ≡ i + 1 = omega arith in
       ap (λ (x : List ℕ). with_boxes tree w table x) (drop-cons ks i 0 l)
       ∙ ap (λ (n : ℕ). with_boxes tree w (with_box tree w table (slice_index_or ks i 0)) (drop n ks)) next
 
-  pub added-next : (table : List (Option Alone)) (ks : List ℕ) (i : ℕ) → i < length ks → BoxesAddedFit tree w table (drop i ks)
+  pub added-next : (table : List (Option Independent)) (ks : List ℕ) (i : ℕ) → i < length ks → BoxesAddedFit tree w table (drop i ks)
       → BoxAddedFits tree w table (slice_index_or ks i 0) × BoxesAddedFit tree w (with_box tree w table (slice_index_or ks i 0)) (drop (i + 1) ks)
   added-next table ks i l f =
       let next : suc i ≡ i + 1 = omega arith in

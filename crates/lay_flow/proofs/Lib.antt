@@ -1,7 +1,7 @@
 pub mod Ways
 pub mod Same
 pub mod InLines
-pub mod AloneBoxes
+pub mod IndependentBoxes
 pub mod TableSteps
 pub mod TableFacts
 pub mod Reaches

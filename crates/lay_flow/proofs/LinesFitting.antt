@@ -9,8 +9,8 @@ use Rattle.viz_base.specs.declared.layouts.Inner.{Inner}
 use Rattle.viz_base.specs.declared.styles.Style.{Style}
 use Rattle.viz_base.specs.declared.trees.BoxTree.{BoxTree}
 use Rattle.viz_base.specs.declared.worlds.World.{World}
-use Rattle.layout_semantics.specs.Flow.{Alone}
-use Rattle.layout_semantics.specs.FlowBoxes.{across, is_replaced_at, room}
+use Rattle.layout_semantics.specs.Flow.{Independent}
+use Rattle.layout_semantics.specs.FlowBoxes.{inline_size, is_replaced_at, room}
 use Rattle.layout_semantics.specs.Horizontal.{widths}
 use Rattle.layout_semantics.specs.InlineContent.{inner_boxes, is_floated_at}
 use Rattle.layout_semantics.specs.Lengths.{own}
@@ -19,7 +19,7 @@ use Rattle.layout_semantics.specs.Order.{IsOnPage}
 use Rattle.lay_line.specs.LinesFit.{LinesFit}
 use Rattle.flow_steps.specs.Flow.{Context}
 use Rattle.page_limits.specs.Bounds.{all_around, IsBandIn, IsFloatIn, IsLevelIn}
-use Rattle.page_limits.specs.Boxes.{IsAloneIn, IsWhole}
+use Rattle.page_limits.specs.Boxes.{IsIndependentIn, IsWhole}
 use Rattle.page_limits.proofs.WidthsLevels.{IsFarPage}
 use Rattle.page_limits.proofs.FitsFonts.{IsBoxed}
 use Rattle.page_limits.proofs.FitsLines.{IsInnerLow}
@@ -54,11 +54,11 @@ module _ {A : Type 0} (P : Option A → Type 0) (none : P None) (f : ℕ → A) 
 
 -- ---- what a box takes of lines
 
-abbrev IsHeldLow : Option (Inner ℤ) → Type 0
-IsHeldLow None = Unit {0}
-IsHeldLow (Some i) = IsInnerLow i
+abbrev IsClampedLow : Option (Inner ℤ) → Type 0
+IsClampedLow None = Unit {0}
+IsClampedLow (Some i) = IsInnerLow i
 
-module _ (tree : BoxTree) (w : World) (apart : ℕ → Alone) (small : (j : ℕ) → IsAloneIn (all_around (2 ^ 72)) (2 ^ 72) (apart j)) where
+module _ (tree : BoxTree) (w : World) (apart : ℕ → Independent) (small : (j : ℕ) → IsIndependentIn (all_around (2 ^ 72)) (2 ^ 72) (apart j)) where
   level-size : (y : ℤ) → IsLevelIn (all_around (2 ^ 72)) y → unsigned_abs y ≤ 2 ^ 72
   level-size y l = let top = l.top in let bottom = l.bottom in omega (arith, ints, top, bottom)
 
@@ -87,17 +87,17 @@ module _ (tree : BoxTree) (w : World) (apart : ℕ → Alone) (small : (j : ℕ)
 
   inners-low : (b at : ℕ) (i : Inner ℤ) → slice_index_or (inner_table tree w apart b) at None ≡ Some i → IsInnerLow i
   unfolding inner_table
-  inners-low b at i e = subst IsHeldLow e (table-each IsHeldLow tt (inner_of tree w apart) inner-low (length tree.boxes) (inner_boxes tree b) at)
+  inners-low b at i e = subst IsClampedLow e (table-each IsClampedLow tt (inner_of tree w apart) inner-low (length tree.boxes) (inner_boxes tree b) at)
 
 -- ---- the lines of a container
 
 module _ (tree : BoxTree) (page : IsFarPage tree) (first : IsBoxed tree 0) (w : World) (small : w.s ≤ 256) (narrow : w.w ≤ 16384) (flat : w.h ≤ 16384) where
-  pub lines-fit : (k : ℕ) → IsOnPage tree.boxes k → IsWhole tree k → (apart : ℕ → Alone) (cb : Band ℤ) (top : ℤ) (s : Context) → ((j : ℕ) → IsAloneIn (all_around (2 ^ 72)) (2 ^ 72) (apart j))
-      → across cb ≡ (widths tree w k (room tree w k)).content → IsBandIn (all_around (2 ^ 81)) cb → IsLevelIn (all_around (2 ^ 81)) top
+  pub lines-fit : (k : ℕ) → IsOnPage tree.boxes k → IsWhole tree k → (apart : ℕ → Independent) (cb : Band ℤ) (top : ℤ) (s : Context) → ((j : ℕ) → IsIndependentIn (all_around (2 ^ 72)) (2 ^ 72) (apart j))
+      → inline_size cb ≡ (widths tree w k (room tree w k)).content → IsBandIn (all_around (2 ^ 81)) cb → IsLevelIn (all_around (2 ^ 81)) top
       → AllByRecursion (IsFloatIn (all_around (2 ^ 81))) s.floats → AllByRecursion (IsLevelIn (all_around (2 ^ 81))) (option_to_list s.least)
       → LinesFit (inline_context tree w apart k cb) top (unwrap_or s.least top) s.floats
-  lines-fit k on whole apart cb top s alone same band at beside above =
-      lines-fit-here tree page first w small narrow flat k on whole (inner_table tree w apart k) cb same (inners-low tree w apart alone k) top (unwrap_or s.least top) s.floats band at (by s.least above) beside
+  lines-fit k on whole apart cb top s independent same band at beside above =
+      lines-fit-here tree page first w small narrow flat k on whole (inner_table tree w apart k) cb same (inners-low tree w apart independent k) top (unwrap_or s.least top) s.floats band at (by s.least above) beside
     where
       by : (o : Option ℤ) → AllByRecursion (IsLevelIn (all_around (2 ^ 81))) (option_to_list o) → IsLevelIn (all_around (2 ^ 81)) (unwrap_or o top)
       by None a = at

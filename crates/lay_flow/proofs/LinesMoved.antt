@@ -6,13 +6,13 @@ use Rattle.viz_base.specs.declared.layouts.Inner.{Inner}
 use Rattle.viz_base.specs.declared.trees.BoxTree.{BoxTree}
 use Rattle.viz_base.specs.declared.worlds.World.{World}
 use Rattle.layout_semantics.specs.Floats.{FloatBox}
-use Rattle.layout_semantics.specs.Flow.{Alone}
+use Rattle.layout_semantics.specs.Flow.{Independent}
 use Rattle.lay_line.specs.LinesFit.{LinesFit}
 use Rattle.flow_steps.specs.Flow.{Context}
 use Rattle.lay_flow.specs.WalkFits.{inline_context}
 use Rattle.lay_flow.specs.steps.Flow.{inner_table}
 
-pub lines-moved : (tree : BoxTree) (w : World) (apart : ℕ → Alone) (b : ℕ) (cb : Band ℤ) (top : ℤ) (s : Context) (inner : List (Option (Inner ℤ))) (least : ℤ) (floats : List FloatBox)
+pub lines-moved : (tree : BoxTree) (w : World) (apart : ℕ → Independent) (b : ℕ) (cb : Band ℤ) (top : ℤ) (s : Context) (inner : List (Option (Inner ℤ))) (least : ℤ) (floats : List FloatBox)
     → inner ≡ inner_table tree w apart b → least ≡ unwrap_or s.least top → floats ≡ s.floats
     → LinesFit (inline_context tree w apart b cb) top (unwrap_or s.least top) s.floats
     → LinesFit (record { tree = tree; world = w; container = b; inner = inner; cb = cb }) top least floats

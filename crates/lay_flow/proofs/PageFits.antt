@@ -7,15 +7,15 @@ use Rattle.viz_base.specs.declared.trees.BoxNode.{BoxNode}
 use Rattle.viz_base.specs.declared.trees.BoxTree.{BoxTree}
 use Rattle.viz_base.specs.declared.worlds.World.{World}
 use Rattle.viz_calc.specs.State.{AllSmall}
-use Rattle.layout_semantics.specs.Flow.{Alone}
-use Rattle.layout_semantics.specs.FlowBoxes.{across, is_replaced_at, room}
+use Rattle.layout_semantics.specs.Flow.{Independent}
+use Rattle.layout_semantics.specs.FlowBoxes.{inline_size, is_replaced_at, room}
 use Rattle.layout_semantics.specs.Horizontal.{widths}
 use Rattle.layout_semantics.specs.InlineContent.{has_line}
 use Rattle.layout_semantics.specs.Order.{IsOnPage}
 use Rattle.lay_line.specs.LinesFit.{LinesFit}
 use Rattle.lay_margin.specs.Fitting.{BoxFits}
 use Rattle.page_limits.specs.Bounds.{IsBandIn, IsFloatIn, IsLevelIn, all_around}
-use Rattle.page_limits.specs.Boxes.{ArePropertiesSmall, IsAloneIn, IsInlineBoxSmall, IsWhole}
+use Rattle.page_limits.specs.Boxes.{ArePropertiesSmall, IsIndependentIn, IsInlineBoxSmall, IsWhole}
 use Rattle.page_limits.specs.Raises.{AreRaisesSmall}
 use Rattle.flow_steps.specs.Flow.{Context}
 use Rattle.lay_flow.specs.Fits.{IsHeightFit, IsReplacedFit, IsShapeFit}
@@ -28,9 +28,9 @@ module _ (tree : BoxTree) (w : World) where
     pub shape : IsShapeFit tree w k (room tree w k)
     pub own_height : IsHeightFit tree w k
     pub replaced : is_replaced_at tree k ≡ true → IsReplacedFit tree w k (room tree w k)
-    pub lead : (cb : Band ℤ) → across cb ≡ room tree w k → IsBandLow cb → BoxFits tree w cb k
-    pub in_lines : has_line tree k ≡ true → (apart : ℕ → Alone) (cb : Band ℤ) (top : ℤ) (s : Context) → ((j : ℕ) → IsAloneIn (all_around (2 ^ 72)) (2 ^ 72) (apart j))
-        → across cb ≡ (widths tree w k (room tree w k)).content → IsBandIn (all_around (2 ^ 81)) cb → IsLevelIn (all_around (2 ^ 81)) top
+    pub lead : (cb : Band ℤ) → inline_size cb ≡ room tree w k → IsBandLow cb → BoxFits tree w cb k
+    pub in_lines : has_line tree k ≡ true → (apart : ℕ → Independent) (cb : Band ℤ) (top : ℤ) (s : Context) → ((j : ℕ) → IsIndependentIn (all_around (2 ^ 72)) (2 ^ 72) (apart j))
+        → inline_size cb ≡ (widths tree w k (room tree w k)).content → IsBandIn (all_around (2 ^ 81)) cb → IsLevelIn (all_around (2 ^ 81)) top
         → AllByRecursion (IsFloatIn (all_around (2 ^ 81))) s.floats → AllByRecursion (IsLevelIn (all_around (2 ^ 81))) (option_to_list s.least)
         → LinesFit (inline_context tree w apart k cb) top (unwrap_or s.least top) s.floats
 

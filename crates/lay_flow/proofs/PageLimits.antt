@@ -14,7 +14,7 @@ use Rattle.page_limits.proofs.HeightsSmall.{raises-small}
 use Rattle.page_limits.proofs.PageSmall.{properties-small, inline-small}
 use Rattle.page_limits.proofs.WidthsLevels.{IsFarPage}
 use Rattle.page_limits.proofs.WidthsSmall.{far-page}
-use Rattle.lay_flow.specs.AloneFits.{PageComesFit}
+use Rattle.lay_flow.specs.IndependentFits.{PageComesFit}
 use Rattle.lay_flow.specs.WalkFits.{AllFit}
 use Rattle.lay_flow.proofs.BoxesFit.{shape-fit, height-fit, replaced-fit, lead-fit}
 use Rattle.lay_flow.proofs.LinesFitting.{lines-fit}

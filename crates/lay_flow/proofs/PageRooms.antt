@@ -16,7 +16,7 @@ use Rattle.layout_semantics.proofs.Forest.{IsKid}
 use Rattle.layout_semantics.proofs.Pages.{forest, root-alone, root_place, Each-contains}
 use Rattle.layout_laws.proofs.Upward.{HasParent, parent-of}
 use Rattle.page_limits.specs.Boxes.{IsWhole}
-use Rattle.lay_flow.specs.AloneFits.{RoomFits}
+use Rattle.lay_flow.specs.IndependentFits.{RoomFits}
 use Rattle.lay_flow.specs.Fits.{IsShapeFit}
 
 -- what holds a box, and is no inline box, is laid out whole

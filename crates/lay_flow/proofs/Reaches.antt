@@ -4,7 +4,7 @@ use Rattle.std.specs.Prelude.{◌==◌, ◌+ℤ◌}
 use Rattle.viz_base.specs.declared.layouts.Band.{Band}
 use Rattle.viz_base.specs.declared.trees.BoxTree.{BoxTree}
 use Rattle.viz_base.specs.declared.worlds.World.{World}
-use Rattle.layout_semantics.specs.Flow.{Alone, Cleared}
+use Rattle.layout_semantics.specs.Flow.{Independent, Cleared}
 use Rattle.layout_semantics.specs.Leads.{is_up_to, none_passed}
 use Rattle.layout_semantics.specs.Clearance.{hangs, stands}
 use Rattle.lay_margin.specs.declared.runs.Run.{Run}
@@ -13,7 +13,7 @@ use Rattle.flow_steps.specs.Flow.{Standing, at_top, below, Context, Met, met}
 use Rattle.flow_steps.specs.Forward.{Found, cleared_of}
 use Rattle.lay_flow.specs.steps.Flow.{forward_of, reached_from, reached_of}
 
-module _ (tree : BoxTree) (w : World) (apart : ℕ → Alone) (cb : Band ℤ) (s : Context) (b : ℕ) where
+module _ (tree : BoxTree) (w : World) (apart : ℕ → Independent) (cb : Band ℤ) (s : Context) (b : ℕ) where
   -- the cleared box itself
   pub from-itself : (y : ℤ) (c : ℕ × ℤ) (own : Run ℤ) (f : Found) → (c.0 == b) ≡ true → f ≡ forward_of tree w apart (stands c.1) (is_up_to b) cb s b no_run
       → met (record { top = c.1; clears = true; cleared = cleared_of f.end }) f.run ≡ reached_from tree w apart cb s b y (Some c) own

@@ -9,8 +9,8 @@ use Rattle.viz_base.specs.declared.layouts.Band.{Band}
 use Rattle.viz_base.specs.declared.layouts.Waiting.{Waiting}
 use Rattle.viz_base.specs.declared.trees.BoxTree.{BoxTree}
 use Rattle.viz_base.specs.declared.worlds.World.{World}
-use Rattle.layout_semantics.specs.Flow.{Alone, Cleared}
-use Rattle.layout_semantics.specs.FlowBoxes.{across}
+use Rattle.layout_semantics.specs.Flow.{Independent, Cleared}
+use Rattle.layout_semantics.specs.FlowBoxes.{inline_size}
 use Rattle.layout_semantics.specs.InlineContent.{is_floated_at}
 use Rattle.layout_semantics.specs.Leads.{is_up_to, none_passed}
 use Rattle.layout_semantics.specs.Order.{IsOnPage}
@@ -22,7 +22,7 @@ use Rattle.flow_steps.specs.Flow.{Standing, at_top, below, Context, Met, met, gr
 use Rattle.flow_steps.specs.Forward.{End, Found, goes_on, solid, cleared, cleared_of, forward}
 use Rattle.flow_steps.proofs.Sound.{IsFlowKid}
 use Rattle.page_limits.specs.Bounds.{Bounds, AreInside, grown, all_around, IsLevelIn, IsBandIn, IsFloatIn}
-use Rattle.page_limits.specs.Boxes.{IsWhole, IsBoxSmall, IsAloneIn}
+use Rattle.page_limits.specs.Boxes.{IsWhole, IsBoxSmall, IsIndependentIn}
 use Rattle.page_limits.proofs.Levels.{inside-grown}
 use Rattle.page_limits.proofs.FloatsMet.{floats-wider, band-wider}
 use Rattle.page_limits.proofs.LinesWithin.{levels-wider}
@@ -38,9 +38,9 @@ use Rattle.lay_flow.proofs.WaysFit.{ways-fit}
 
 module _ (tree : BoxTree) (w : World) (own turned : ℕ → Bounds) (s t : ℕ) (fine : 8 * t ≤ s)
     (boxes : (k : ℕ) → IsOnPage tree.boxes k → IsWhole tree k → IsBoxSmall tree w t k) (low : s ≤ 2 ^ 80)
-    (fits : (cb : Band ℤ) (k : ℕ) → IsFlowKid tree w k (across cb) → is_floated_at tree k ≡ false → IsBandLow cb → BoxFits tree w cb k)
-    (apart : ℕ → Alone) (alone_in : (k : ℕ) → IsAloneIn (own k) s (apart k)) (cb : Band ℤ) (c : Context) (k : ℕ)
-    (l : k < length tree.boxes) (i : IsFlowKid tree w k (across cb)) (f : is_floated_at tree k ≡ false) where
+    (fits : (cb : Band ℤ) (k : ℕ) → IsFlowKid tree w k (inline_size cb) → is_floated_at tree k ≡ false → IsBandLow cb → BoxFits tree w cb k)
+    (apart : ℕ → Independent) (independent_in : (k : ℕ) → IsIndependentIn (own k) s (apart k)) (cb : Band ℤ) (c : Context) (k : ℕ)
+    (l : k < length tree.boxes) (i : IsFlowKid tree w k (inline_size cb)) (f : is_floated_at tree k ≡ false) where
   abbrev rises : ℕ → Bounds
   rises j = rise tree own turned s j
 
@@ -55,7 +55,7 @@ module _ (tree : BoxTree) (w : World) (own turned : ℕ → Bounds) (s t : ℕ) 
 
   sized : (base : Base) (b : Bounds) (g : Waiting ℤ) → IsSizeIn tree w own turned s t fine boxes (size_in apart) base c.floats c.least b g
   unfolding size_in
-  sized base b g = let a = alone_in g.at in record { wide = a.width; tall = a.height }
+  sized base b g = let a = independent_in g.at in record { wide = a.width; tall = a.height }
 
   forward-fits : (b : Bounds) (base : Base) (passed : ℕ → Bool) (run : Run ℤ) → IsBegun b base → AllByRecursion (IsFloatIn b) c.floats → AllByRecursion (IsLevelIn b) (option_to_list c.least) → IsBandIn b cb
       → within.IsRunLow s run → IsNarrow (grown b (rises k)) → ForwardFits tree w apart cb c k base passed run
@@ -87,7 +87,7 @@ module _ (tree : BoxTree) (w : World) (own turned : ℕ → Bounds) (s t : ℕ) 
       forward-fits (near b) (stands edge) (is_up_to k) no_run e (floats-wider b (near b) c.floats wide floats) (levels-wider b (near b) (option_to_list c.least) wide least) (band-wider b (near b) wide band) (none-low s) n
 
   -- where it is reached, and what is ahead of it
-  pub reach-fits : (b : Bounds) (ks : List ℕ) → IsBandIn b cb → IsContextIn tree w own turned s t fine boxes apart alone_in b (k ∷ ks) c → IsStandingLow c.standing → IsNarrow (grown (near b) (rises k))
+  pub reach-fits : (b : Bounds) (ks : List ℕ) → IsBandIn b cb → IsContextIn tree w own turned s t fine boxes apart independent_in b (k ∷ ks) c → IsStandingLow c.standing → IsNarrow (grown (near b) (rises k))
       → ReachFits tree w apart cb c k
   reach-fits b ks band h low_is n = by c.standing h.standing low_is
     where
@@ -117,7 +117,7 @@ module _ (tree : BoxTree) (w : World) (own turned : ℕ → Bounds) (s t : ℕ) 
             from edge (subst (λ (z : ℤ). IsLevelIn (near b) z) (sym both.1) (match-pending tree own turned s b k ks d y both.0 f (ahead (q.0 ks))))),
       )
 
-      by : (st : Standing) → IsStandingIn tree w own turned s t fine boxes apart alone_in b (k ∷ ks) st → IsStandingLow st → StandingFits tree w apart cb c k st
+      by : (st : Standing) → IsStandingIn tree w own turned s t fine boxes apart independent_in b (k ∷ ks) st → IsStandingLow st → StandingFits tree w apart cb c k st
       by (at_top y None) q o = (o.0, (tt, λ edge e. absurd (cc)))
       by (at_top y (Some d)) q o = (
         o.0,
@@ -133,7 +133,7 @@ module _ (tree : BoxTree) (w : World) (own turned : ℕ → Bounds) (s t : ℕ) 
           (o.0, o.1, forward-fits b (hangs edge) none_passed run q.0 h.floats h.least band q.1 narrow, run-low x.run found.run, ended (hangs edge) q.0 x.waiting x.end found.end)
 
   -- the box that is cleared ahead of it is low
-  pub ahead-of-reached-low : (b : Bounds) (ks : List ℕ) → IsBandIn b cb → IsContextIn tree w own turned s t fine boxes apart alone_in b (k ∷ ks) c → IsStandingLow c.standing → IsNarrow (grown (near b) (rises k))
+  pub ahead-of-reached-low : (b : Bounds) (ks : List ℕ) → IsBandIn b cb → IsContextIn tree w own turned s t fine boxes apart independent_in b (k ∷ ks) c → IsStandingLow c.standing → IsNarrow (grown (near b) (rises k))
       → IsClearedLow (reached_of tree w apart cb c k).reached.cleared
   unfolding reached_of reached_from
   ahead-of-reached-low b ks band h low_is n = by c.standing h.standing low_is
@@ -175,7 +175,7 @@ module _ (tree : BoxTree) (w : World) (own turned : ℕ → Bounds) (s t : ℕ) 
       pending base begun ws solid q = tt
       pending base begun ws (cleared d y) q = ahead (q.0 ks)
 
-      by : (st : Standing) → IsStandingIn tree w own turned s t fine boxes apart alone_in b (k ∷ ks) st → IsStandingLow st → IsClearedLow (reached_of tree w apart cb (record c { standing = st }) k).reached.cleared
+      by : (st : Standing) → IsStandingIn tree w own turned s t fine boxes apart independent_in b (k ∷ ks) st → IsStandingLow st → IsClearedLow (reached_of tree w apart cb (record c { standing = st }) k).reached.cleared
       by (at_top y next) q o = from y next no_run q.1 o.1
       by (below edge run stuck) q o =
           let found = found-in b (hangs edge) none_passed run q.0 h.floats h.least band q.1 in

@@ -6,7 +6,7 @@ use Rattle.viz_base.specs.declared.worlds.World.{World}
 use Rattle.viz_calc.specs.State.{AllSmall}
 use Rattle.layout_semantics.specs.Blocks.{kind_of, parent_of}
 use Rattle.layout_semantics.specs.FlowBoxes.{room_to}
-use Rattle.lay_flow.specs.AloneFits.{RoomFits}
+use Rattle.lay_flow.specs.IndependentFits.{RoomFits}
 use Rattle.lay_flow.specs.Fits.{IsShapeFit}
 
 module _ (tree : BoxTree) (w : World) where
@@ -15,10 +15,10 @@ module _ (tree : BoxTree) (w : World) where
   room-top zero b e f = f
   room-top (suc levels) b e f = absurd (omega (arith, e))
 
-  pub room-alone : (levels b : ℕ) → parent_of tree.boxes b ≡ None → RoomFits tree w levels b → AllSmall (pos (64 * w.w) ∷ [])
+  pub room-independent : (levels b : ℕ) → parent_of tree.boxes b ≡ None → RoomFits tree w levels b → AllSmall (pos (64 * w.w) ∷ [])
   unfolding RoomFits
-  room-alone zero b e f = f
-  room-alone (suc levels) b e f = rw e at f
+  room-independent zero b e f = f
+  room-independent (suc levels) b e f = rw e at f
 
   pub room-inside : (levels n b parent : ℕ) → levels ≡ suc n → parent_of tree.boxes b ≡ Some parent → RoomFits tree w levels b
       → RoomFits tree w n parent × (is_inline (kind_of tree parent) ≡ false → IsShapeFit tree w parent (room_to n tree w parent))

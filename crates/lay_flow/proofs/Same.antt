@@ -4,7 +4,7 @@ use Rattle.std.specs.Prelude.{◌==◌, ◌+ℤ◌, map, unwrap_or, flat_map}
 use Rattle.viz_base.specs.declared.layouts.Band.{Band}
 use Rattle.viz_base.specs.declared.trees.BoxTree.{BoxTree}
 use Rattle.viz_base.specs.declared.worlds.World.{World}
-use Rattle.layout_semantics.specs.Flow.{Alone, Reached, Cleared}
+use Rattle.layout_semantics.specs.Flow.{Independent, Reached, Cleared}
 use Rattle.layout_semantics.specs.FlowBoxes.{flow_children}
 use Rattle.layout_semantics.specs.InlineContent.{is_floated_at, has_line, inner_boxes}
 use Rattle.layout_semantics.specs.Leads.{is_up_to, none_passed}
@@ -22,7 +22,7 @@ use Rattle.flow_steps.proofs.Levels.{content-is}
 use Rattle.lay_flow.specs.steps.Flow as named
 use Rattle.lay_flow.specs.steps.Flow.{ending_of, reached_from, reached_of, standing_after, float_of, in_lines, in_flow, laid_of, child_of, content_by}
 
-module _ (tree : BoxTree) (w : World) (apart : ℕ → Alone) where
+module _ (tree : BoxTree) (w : World) (apart : ℕ → Independent) where
   abbrev content : ℕ → Band ℤ → ℤ → Context → Step
   content = flow.content_of tree w apart
 

@@ -5,7 +5,7 @@ use Rattle.std.specs.Int.{int_max}
 use Rattle.viz_base.specs.declared.renderings.Quad.{Quad}
 use Rattle.viz_calc.specs.State.{AllSmall}
 use Rattle.page_limits.specs.Bounds.{all_around, IsLevelIn, IsQuadIn}
-use Rattle.page_limits.specs.Boxes.{IsHeightHeld}
+use Rattle.page_limits.specs.Boxes.{IsHeightClamped}
 use Rattle.page_limits.specs.Inline.{IsSmall}
 use Rattle.lay_margin.specs.declared.runs.Run.{Run}
 use Rattle.lay_margin.specs.Fitting.{ends}
@@ -75,9 +75,9 @@ near-difference a b s t = fit (2 ^ 96) (a -ℤ b) (less (2 ^ 95) (2 ^ 95) (2 ^ 9
 pub aside-near : (x : ℤ) → IsAsideLow x → IsNear x
 aside-near x s = wider (2 ^ 90) (2 ^ 95) x s (omega arith)
 
--- a height that is held is as small as the content's
-pub held-small : (m : ℕ) (auto height : ℤ) → IsHeightHeld (2 ^ 90) auto height → IsSmall m auto → 2 ^ 90 ≤ m → IsSmall m height
-held-small m auto height h s l = by (2 ^ 90) h.from h.to l
+-- a height that is clamped is as small as the content's
+pub clamped-small : (m : ℕ) (auto height : ℤ) → IsHeightClamped (2 ^ 90) auto height → IsSmall m auto → 2 ^ 90 ≤ m → IsSmall m height
+clamped-small m auto height h s l = by (2 ^ 90) h.from h.to l
   where
     by : (t : ℕ) → (pos 0 -ℤ pos t) ≤ℤ height → height ≤ℤ int_max auto (pos t) → t ≤ m → IsSmall m height
     by t from to le = omega (arith, ints, clamps)

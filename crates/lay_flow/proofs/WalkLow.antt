@@ -5,17 +5,17 @@ use Rattle.viz_base.specs.declared.layouts.Band.{Band}
 use Rattle.viz_base.specs.declared.layouts.Widths.{Widths}
 use Rattle.viz_base.specs.declared.trees.BoxTree.{BoxTree}
 use Rattle.viz_base.specs.declared.worlds.World.{World}
-use Rattle.layout_semantics.specs.Flow.{Alone}
+use Rattle.layout_semantics.specs.Flow.{Independent}
 use Rattle.layout_semantics.specs.FlowBoxes.{flow_children}
 use Rattle.layout_semantics.specs.InlineContent.{has_line, is_floated_at}
 use Rattle.layout_semantics.specs.Verticals.{Verticals}
 use Rattle.flow_steps.specs.Flow.{Context, Met, Standing, Step, at_top, below}
 use Rattle.page_limits.specs.Bounds.{Bounds, AreInside, all_around}
-use Rattle.page_limits.specs.Boxes.{AreSidesSmall, AreWidthsSmall, IsAloneIn}
+use Rattle.page_limits.specs.Boxes.{AreSidesSmall, AreWidthsSmall, IsIndependentIn}
 use Rattle.page_limits.proofs.BoxesWithin.{boxes-wider}
 use Rattle.page_limits.proofs.Levels.{level-wider}
 use Rattle.page_limits.proofs.LinesWithin.{levels-wider}
-use Rattle.lay_flow.specs.Low.{reach, IsAloneLow, IsClearedLow}
+use Rattle.lay_flow.specs.Low.{reach, IsIndependentLow, IsClearedLow}
 use Rattle.lay_flow.specs.steps.Flow.{Ending, child_of, children_of, content_by, content_of, float_of, in_flow, in_lines, standing_after}
 use Rattle.lay_flow.proofs.Same.{content-named}
 
@@ -47,8 +47,8 @@ sides-low t v l h =
     }
 
 -- boxes in coordinates of their own
-pub alone-wider : (own around : Bounds) (s m : ℕ) (a : Alone) → s ≤ m → AreInside own around → IsAloneIn own s a → IsAloneIn around m a
-alone-wider own around s m a l i h =
+pub independent-wider : (own around : Bounds) (s m : ℕ) (a : Independent) → s ≤ m → AreInside own around → IsIndependentIn own s a → IsIndependentIn around m a
+independent-wider own around s m a l i h =
     let width = h.width in
     record {
       width = omega (arith, width, l);
@@ -57,9 +57,9 @@ alone-wider own around s m a l i h =
       boxes = boxes-wider own around a.boxes i h.boxes;
     }
 
-pub alone-low : (a : Alone) → IsAloneIn (all_around (2 ^ 72)) (2 ^ 72) a → IsAloneLow a
-alone-low a h =
-    let wide = alone-wider (all_around (2 ^ 72)) reach (2 ^ 72) (2 ^ 90) a (omega arith) (record { up = omega arith; down = omega arith; aside = omega arith }) h in
+pub independent-low : (a : Independent) → IsIndependentIn (all_around (2 ^ 72)) (2 ^ 72) a → IsIndependentLow a
+independent-low a h =
+    let wide = independent-wider (all_around (2 ^ 72)) reach (2 ^ 72) (2 ^ 90) a (omega arith) (record { up = omega arith; down = omega arith; aside = omega arith }) h in
     record { size = record { width = wide.width; height = wide.height }; baseline = wide.baseline; boxes = wide.boxes }
 
 -- ---- the cleared box that is ahead stays where it is
@@ -68,7 +68,7 @@ abbrev pub IsAheadLow : Standing → Type 0
 IsAheadLow (at_top y cleared) = IsClearedLow cleared
 IsAheadLow (below edge run stuck) = Unit {0}
 
-module _ (tree : BoxTree) (w : World) (apart : ℕ → Alone) where
+module _ (tree : BoxTree) (w : World) (apart : ℕ → Independent) where
   after-ahead : (cb : Band ℤ) (st : Standing) (b : ℕ) (m : Met) (end : Ending) → IsAheadLow st → IsAheadLow (standing_after tree w cb st b m end)
   unfolding standing_after
   after-ahead cb st b m end h = by end.through m.reached.clears st refl refl h

@@ -9,8 +9,8 @@ use Rattle.viz_base.specs.declared.layouts.Entry.TheVariants as of_entry
 use Rattle.viz_base.specs.declared.layouts.Widths.{Widths}
 use Rattle.viz_base.specs.declared.trees.BoxTree.{BoxTree}
 use Rattle.viz_base.specs.declared.worlds.World.{World}
-use Rattle.layout_semantics.specs.Flow.{Alone, Cleared, Reached}
-use Rattle.layout_semantics.specs.FlowBoxes.{across, content_from, flow_children, room}
+use Rattle.layout_semantics.specs.Flow.{Independent, Cleared, Reached}
+use Rattle.layout_semantics.specs.FlowBoxes.{inline_size, content_from, flow_children, room}
 use Rattle.layout_semantics.specs.Horizontal.{widths}
 use Rattle.layout_semantics.specs.InlineContent.{has_line, is_floated_at}
 use Rattle.layout_semantics.specs.Lines.{lines_in}
@@ -24,7 +24,7 @@ use Rattle.flow_steps.specs.Flow as flow
 use Rattle.flow_steps.specs.Flow.{Context, Met, Step, content_of, fresh, met, Standing, at_top, below}
 use Rattle.flow_steps.proofs.Sound.{IsFlowKid, IsSound}
 use Rattle.page_limits.specs.Bounds.{Bounds, AreInside, grown, all_around, IsBandIn, IsLevelIn}
-use Rattle.page_limits.specs.Boxes.{IsAloneIn, IsBoxSmall, IsWhole}
+use Rattle.page_limits.specs.Boxes.{IsIndependentIn, IsBoxSmall, IsWhole}
 use Rattle.page_limits.specs.Inline.{AreLinesIn, IsContentSmall, IsEntryIn}
 use Rattle.page_limits.specs.Rises.{content_rise}
 use Rattle.page_limits.proofs.Ahead.{rise}
@@ -45,14 +45,14 @@ use Rattle.lay_flow.specs.steps.Flow.{lines_of, reached_of}
 use Rattle.lay_flow.proofs.ReachesFit.{ahead-of-reached-low, reach-fits}
 use Rattle.lay_flow.proofs.Same.{reached-same}
 use Rattle.lay_flow.proofs.Sizes.{level-near}
-use Rattle.lay_flow.proofs.WalkLow.{IsAheadLow, alone-low, content-ahead, alone-wider, sides-low, widths-low}
+use Rattle.lay_flow.proofs.WalkLow.{IsAheadLow, independent-low, content-ahead, independent-wider, sides-low, widths-low}
 use Rattle.lay_flow.proofs.WalkWithin as walk
 use Rattle.lay_flow.proofs.Walks as walks
 
 module _ (tree : BoxTree) (w : World) (own turned : ℕ → Bounds) (s t : ℕ) (fine : 8 * t ≤ s)
-    (boxes : (k : ℕ) → IsOnPage tree.boxes k → IsWhole tree k → IsBoxSmall tree w t k) (apart : ℕ → Alone) (alone_in : (k : ℕ) → IsAloneIn (own k) s (apart k))
+    (boxes : (k : ℕ) → IsOnPage tree.boxes k → IsWhole tree k → IsBoxSmall tree w t k) (apart : ℕ → Independent) (independent_in : (k : ℕ) → IsIndependentIn (own k) s (apart k))
     (lines_small : (n k : ℕ) (left wide : ℤ) → IsSound tree w k wide → has_line tree k ≡ true
-    → IsContentSmall (line_context tree w own turned s t fine boxes apart alone_in n k left wide) own turned s)
+    → IsContentSmall (line_context tree w own turned s t fine boxes apart independent_in n k left wide) own turned s)
     (low : s ≤ 2 ^ 72) (few : (k : ℕ) → AreInside (own k) (all_around (2 ^ 72))) (each : (k : ℕ) → IsOnPage tree.boxes k → IsWhole tree k → IsBoxFit tree w k) where
   abbrev inside : ℕ → Band ℤ → ℤ → Context → Step
   inside = content_of tree w apart
@@ -61,29 +61,29 @@ module _ (tree : BoxTree) (w : World) (own turned : ℕ → Bounds) (s t : ℕ) 
   rises k = rise tree own turned s k
 
   abbrev most : Bounds
-  most = walk.most tree w own turned s t fine boxes apart alone_in
+  most = walk.most tree w own turned s t fine boxes apart independent_in
 
   abbrev ContentHere : ℕ → Band ℤ → ℤ → Context → Type 0
-  ContentHere k cb top c = walk.ContentIn tree w own turned s t fine boxes apart alone_in k cb top c
+  ContentHere k cb top c = walk.ContentIn tree w own turned s t fine boxes apart independent_in k cb top c
 
   abbrev FlowHere : Band ℤ → Context → ℕ → Type 0
-  FlowHere cb c k = walk.FlowIn tree w own turned s t fine boxes apart alone_in cb c k
+  FlowHere cb c k = walk.FlowIn tree w own turned s t fine boxes apart independent_in cb c k
 
   abbrev ReachedHere : Band ℤ → Context → ℕ → ℤ → Cleared → Type 0
-  ReachedHere cb c k y cleared = walk.ReachedIn tree w own turned s t fine boxes apart alone_in cb c k y cleared
+  ReachedHere cb c k y cleared = walk.ReachedIn tree w own turned s t fine boxes apart independent_in cb c k y cleared
 
   abbrev Here : Place → Type 0
-  Here p = walk.Within tree w own turned s t fine boxes apart alone_in p
+  Here p = walk.Within tree w own turned s t fine boxes apart independent_in p
 
   abbrev frame : Band ℤ → ℕ → ℤ → Frame
-  frame cb k y = flow.frame_at tree w k (across cb) cb.left y
+  frame cb k y = flow.frame_at tree w k (inline_size cb) cb.left y
 
   -- ---- what is within bounds is low
 
   inside-reach : (b more : Bounds) → AreInside (grown b more) most → AreInside b reach
   inside-reach b more i = let u = i.up in let d = i.down in let a = i.aside in record { up = omega (arith, u); down = omega (arith, d); aside = omega (arith, a) }
 
-  context-low : (b : Bounds) (ks : List ℕ) (c : Context) → AreInside b reach → within.IsContextIn tree w own turned s t fine boxes apart alone_in b ks c → IsAheadLow c.standing → IsContextLow c
+  context-low : (b : Bounds) (ks : List ℕ) (c : Context) → AreInside b reach → within.IsContextIn tree w own turned s t fine boxes apart independent_in b ks c → IsAheadLow c.standing → IsContextLow c
   context-low b ks c i h a = record {
     standing = by c.standing h.standing a;
     floats = floats-wider b reach c.floats i h.floats;
@@ -91,13 +91,13 @@ module _ (tree : BoxTree) (w : World) (own turned : ℕ → Bounds) (s t : ℕ) 
     baseline = levels-wider b reach (option_to_list c.baseline) i h.baseline;
   }
     where
-      by : (st : Standing) → within.IsStandingIn tree w own turned s t fine boxes apart alone_in b ks st → IsAheadLow st → IsStandingLow st
+      by : (st : Standing) → within.IsStandingIn tree w own turned s t fine boxes apart independent_in b ks st → IsAheadLow st → IsStandingLow st
       by (at_top y cleared) q a = (level-wider b reach y i q.0, a)
       by (below edge run stuck) q a = let m = q.1.most in let n = q.1.least in (level-wider b reach edge i q.0, record { most = omega (arith, m, low); least = omega (arith, n, low) })
 
   -- boxes in coordinates of their own
-  apart-in : (j : ℕ) → IsAloneIn (all_around (2 ^ 72)) (2 ^ 72) (apart j)
-  apart-in j = alone-wider (own j) (all_around (2 ^ 72)) s (2 ^ 72) (apart j) low (few j) (alone_in j)
+  apart-in : (j : ℕ) → IsIndependentIn (all_around (2 ^ 72)) (2 ^ 72) (apart j)
+  apart-in j = independent-wider (own j) (all_around (2 ^ 72)) s (2 ^ 72) (apart j) low (few j) (independent_in j)
 
   -- behind what is in a box
   content-low : (k : ℕ) (cb : Band ℤ) (top : ℤ) (c : Context) → (h : ContentHere k cb top c) → AreInside (grown h.b (content_rise tree own turned s k)) reach
@@ -116,22 +116,22 @@ module _ (tree : BoxTree) (w : World) (own turned : ℕ → Bounds) (s t : ℕ) 
   content-end k cb top c h =
       let after = grown h.b (content_rise tree own turned s k) in
       let band = subst (λ (x : Band ℤ). IsBandIn h.b x) h.same h.band in
-      let done = walk.inside-all tree w own turned s t fine boxes apart alone_in lines_small k h.b h.left h.wide top c h.sound h.there band h.at h.begun in
+      let done = walk.inside-all tree w own turned s t fine boxes apart independent_in lines_small k h.b h.left h.wide top c h.sound h.there band h.at h.begun in
       let all = content-low k cb top c h in
       context-low after [] (inside k cb top c).context all
-      (subst (λ (x : Band ℤ). within.IsContextIn tree w own turned s t fine boxes apart alone_in after [] (inside k x top c).context) (sym h.same) done.context)
+      (subst (λ (x : Band ℤ). within.IsContextIn tree w own turned s t fine boxes apart independent_in after [] (inside k x top c).context) (sym h.same) done.context)
       (content-ahead tree w apart k cb top c h.there h.ahead)
 
   -- ---- lines
 
   -- those of a box, by what goes beside them
   lines-in : (k : ℕ) (left wide top : ℤ) (c : Context) (b : Bounds) → IsSound tree w k wide → k < length tree.boxes → has_line tree k ≡ true → IsBandIn b (content_from left (widths tree w k wide)) → IsLevelIn b top
-      → within.IsContextIn tree w own turned s t fine boxes apart alone_in b (flow_children tree k) c → AreLinesIn own (grown b (content_rise tree own turned s k)) (lines_of tree w apart k (content_from left (widths tree w k wide)) top c)
+      → within.IsContextIn tree w own turned s t fine boxes apart independent_in b (flow_children tree k) c → AreLinesIn own (grown b (content_rise tree own turned s k)) (lines_of tree w apart k (content_from left (widths tree w k wide)) top c)
   unfolding named.lines_of named.inner_table named.inner_of
   lines-in k left wide top c b i l e band at h =
-      let x = line_context tree w own turned s t fine boxes apart alone_in 0 k left wide in
+      let x = line_context tree w own turned s t fine boxes apart independent_in 0 k left wide in
       subst (λ (r : Bounds). AreLinesIn own (grown b r) (lines_in x top (unwrap_or c.least top) c.floats)) (sym (rise-of-lines tree own turned s k l e))
-      (lines-within x own turned s (lines_small 0 k left wide i e) b top (unwrap_or c.least top) c.floats band (at, (first-least tree w own turned s t fine boxes apart alone_in lines_small b c.least top h.least at, tt)) h.floats)
+      (lines-within x own turned s (lines_small 0 k left wide i e) b top (unwrap_or c.least top) c.floats band (at, (first-least tree w own turned s t fine boxes apart independent_in lines_small b c.least top h.least at, tt)) h.floats)
 
   entry-low : (b : Bounds) → AreInside b reach → (x : Entry ℤ) → IsEntryIn own b x → IsEntryLow x
   entry-low b i (of_entry.Here p) q = box-wider b reach p i q
@@ -149,7 +149,7 @@ module _ (tree : BoxTree) (w : World) (own turned : ℕ → Bounds) (s t : ℕ) 
       let band = subst (λ (x : Band ℤ). IsBandIn h.b x) h.same h.band in
       let lines = subst (λ (x : Band ℤ). AreLinesIn own after (lines_of tree w apart k x top c)) (sym h.same) (lines-in k h.left h.wide top c h.b h.sound h.there e band h.at h.begun) in
       record {
-        apart_low = λ j. alone-low (apart j) (apart-in j);
+        apart_low = λ j. independent-low (apart j) (apart-in j);
         top_near = level-near top (level-wider h.b reach top narrow h.at);
         least = levels-wider h.b reach (option_to_list c.least) narrow h.begun.least;
         lines = (each k h.sound.page h.whole).in_lines e apart cb top c apart-in wide (band-wider h.b far here h.band) (level-wider h.b far top here h.at) (floats-wider h.b far c.floats here h.begun.floats)
@@ -164,24 +164,24 @@ module _ (tree : BoxTree) (w : World) (own turned : ℕ → Bounds) (s t : ℕ) 
       here : AreInside h.b far
       here = let i = h.room in let u = i.up in let d = i.down in let a = i.aside in record { up = omega (arith, u); down = omega (arith, d); aside = omega (arith, a) }
 
-      wide : across cb ≡ (widths tree w k (room tree w k)).content
-      wide = ap across h.same ∙ band-wide h.left (widths tree w k h.wide) ∙ ap (λ (z : ℤ). (widths tree w k z).content) h.sound.room
+      wide : inline_size cb ≡ (widths tree w k (room tree w k)).content
+      wide = ap inline_size h.same ∙ band-wide h.left (widths tree w k h.wide) ∙ ap (λ (z : ℤ). (widths tree w k z).content) h.sound.room
         where
-          band-wide : (left : ℤ) (x : Widths ℤ) → across (content_from left x) ≡ x.content
+          band-wide : (left : ℤ) (x : Widths ℤ) → inline_size (content_from left x) ≡ x.content
           band-wide left x = omega (arith, ints)
 
   -- ---- at each place
 
   content-fits : (k : ℕ) (cb : Band ℤ) (top : ℤ) (c : Context) → ContentHere k cb top c → ContentFits tree w apart Here k cb top c
-  content-fits k cb top c h = record { in_lines = λ e. lines-fit k cb top c h e; in_boxes = λ e. walk.content-kept tree w own turned s t fine boxes apart alone_in k cb top c h e }
+  content-fits k cb top c h = record { in_lines = λ e. lines-fit k cb top c h e; in_boxes = λ e. walk.content-kept tree w own turned s t fine boxes apart independent_in k cb top c h e }
 
-  child-fits : (cb : Band ℤ) (top : ℤ) (c : Context) (k : ℕ) → walk.ChildIn tree w own turned s t fine boxes apart alone_in cb top c k → ChildFits tree w apart Here cb top c k
+  child-fits : (cb : Band ℤ) (top : ℤ) (c : Context) (k : ℕ) → walk.ChildIn tree w own turned s t fine boxes apart independent_in cb top c k → ChildFits tree w apart Here cb top c k
   child-fits cb top c k h = record {
     floats = λ f. record {
       so_far = context-low h.b (k ∷ h.ks) c narrow h.begun h.ahead;
       band = band-wider h.b reach narrow h.band;
       top_near = level-near top (level-wider h.b reach top narrow h.at);
-      own = alone-low (apart k) (apart-in k);
+      own = independent-low (apart k) (apart-in k);
     };
     flows = λ f. record { b = h.b; ks = h.ks; next = (h.there, h.kid, f, h.band); begun = h.begun; ahead = h.ahead; room = h.room };
   }
@@ -191,40 +191,40 @@ module _ (tree : BoxTree) (w : World) (own turned : ℕ → Bounds) (s t : ℕ) 
 
   -- ---- a box in flow
 
-  box-fit : (cb : Band ℤ) (k : ℕ) → IsFlowKid tree w k (across cb) → is_floated_at tree k ≡ false → IsBoxFit tree w k
-  box-fit cb k i f = each k i.sound.page (walk.kid-whole tree w own turned s t fine boxes apart alone_in cb k i f)
+  box-fit : (cb : Band ℤ) (k : ℕ) → IsFlowKid tree w k (inline_size cb) → is_floated_at tree k ≡ false → IsBoxFit tree w k
+  box-fit cb k i f = each k i.sound.page (walk.kid-whole tree w own turned s t fine boxes apart independent_in cb k i f)
 
-  shape-fit : (cb : Band ℤ) (k : ℕ) → IsFlowKid tree w k (across cb) → is_floated_at tree k ≡ false → IsShapeFit tree w k (across cb)
+  shape-fit : (cb : Band ℤ) (k : ℕ) → IsFlowKid tree w k (inline_size cb) → is_floated_at tree k ≡ false → IsShapeFit tree w k (inline_size cb)
   shape-fit cb k i f = subst (λ (z : ℤ). IsShapeFit tree w k z) (sym i.sound.room) (box-fit cb k i f).shape
 
   frame-low : (cb : Band ℤ) (c : Context) (k : ℕ) (y : ℤ) (cleared : Cleared) → ReachedHere cb c k y cleared → IsFrameLow (frame cb k y)
   frame-low cb c k y cleared h =
-      let f = within.frame-in tree w own turned s t fine boxes apart alone_in inside h.flows.b cb k y h.flows.next h.top in
+      let f = within.frame-in tree w own turned s t fine boxes apart independent_in inside h.flows.b cb k y h.flows.next h.top in
       let u = h.flows.room.up in let d = h.flows.room.down in let a = h.flows.room.aside in
       let left = f.left in
       let small : t ≤ 2 ^ 90 = omega (arith, fine, low) in
       record {
-        x = widths-low t (widths tree w k (across cb)) small f.x;
-        v = sides-low t (verticals tree w k (across cb)) small f.v;
+        x = widths-low t (widths tree w k (inline_size cb)) small f.x;
+        v = sides-low t (verticals tree w k (inline_size cb)) small f.v;
         aside = omega (arith, left, a, low);
         top = level-wider (grown h.flows.b (all_around (4 * s))) reach y (record { up = omega (arith, u, low); down = omega (arith, d, low); aside = omega (arith, a, low) }) h.top;
       }
 
-  lead-fits : (cb : Band ℤ) (k : ℕ) → IsFlowKid tree w k (across cb) → is_floated_at tree k ≡ false → IsBandLow cb → BoxFits tree w cb k
+  lead-fits : (cb : Band ℤ) (k : ℕ) → IsFlowKid tree w k (inline_size cb) → is_floated_at tree k ≡ false → IsBandLow cb → BoxFits tree w cb k
   lead-fits cb k i f l = (box-fit cb k i f).lead cb i.sound.room l
 
   flow-fits : (cb : Band ℤ) (c : Context) (k : ℕ) → FlowHere cb c k → FlowFits tree w apart Here cb c k
   flow-fits cb c k h = record {
-    reach = reach-fits tree w own turned s t fine boxes less lead-fits apart alone_in cb c k n.0 n.1 n.2 h.b h.ks n.3 h.begun so_far.standing wide;
+    reach = reach-fits tree w own turned s t fine boxes less lead-fits apart independent_in cb c k n.0 n.1 n.2 h.b h.ks n.3 h.begun so_far.standing wide;
     standing = so_far.standing;
     inside = subst (λ (m : Met). ReachedHere cb c k m.reached.top m.reached.cleared) (sym same) at;
     band = band-wider h.b reach narrow n.3;
     down = (shape-fit cb k n.1 n.2).down;
     top_low = subst (λ (m : Met). IsLevelLow m.reached.top) (sym same) (level-wider (grown h.b (all_around (4 * s))) reach here.top (near-low cb c k h) found.top);
-    run = subst (λ (m : Met). IsRunLow m.run) (sym same) (run-low (flow.own_run tree w inside apart cb c k here) (within.own-run-low tree w own turned s t fine boxes apart alone_in inside h.b cb c k h.ks here n h.begun found.top));
+    run = subst (λ (m : Met). IsRunLow m.run) (sym same) (run-low (flow.own_run tree w inside apart cb c k here) (within.own-run-low tree w own turned s t fine boxes apart independent_in inside h.b cb c k h.ks here n h.begun found.top));
   }
     where
-      n : within.IsNext tree w own turned s t fine boxes apart alone_in inside h.b cb k
+      n : within.IsNext tree w own turned s t fine boxes apart independent_in inside h.b cb k
       n = h.next
 
       less : s ≤ 2 ^ 80
@@ -245,15 +245,15 @@ module _ (tree : BoxTree) (w : World) (own turned : ℕ → Bounds) (s t : ℕ) 
       same : reached_of tree w apart cb c k ≡ met here (flow.own_run tree w inside apart cb c k here)
       same = reached-same tree w apart cb c k
 
-      found : within.IsReachedIn tree w own turned s t fine boxes apart alone_in inside h.b h.ks k here
-      found = within.reached-in tree w own turned s t fine boxes apart alone_in inside h.b cb k h.ks c.standing c.floats c.least c.baseline n h.begun.standing h.begun.floats h.begun.least
+      found : within.IsReachedIn tree w own turned s t fine boxes apart independent_in inside h.b h.ks k here
+      found = within.reached-in tree w own turned s t fine boxes apart independent_in inside h.b cb k h.ks c.standing c.floats c.least c.baseline n h.begun.standing h.begun.floats h.begun.least
 
       at : ReachedHere cb c k here.top here.cleared
       at = record {
         flows = h;
         top = found.top;
         pends = found.pends;
-        cleared_low = subst (λ (m : Met). IsClearedLow m.reached.cleared) same (ahead-of-reached-low tree w own turned s t fine boxes less lead-fits apart alone_in cb c k n.0 n.1 n.2 h.b h.ks n.3 h.begun so_far.standing wide);
+        cleared_low = subst (λ (m : Met). IsClearedLow m.reached.cleared) same (ahead-of-reached-low tree w own turned s t fine boxes less lead-fits apart independent_in cb c k n.0 n.1 n.2 h.b h.ks n.3 h.begun so_far.standing wide);
       }
 
       run-low : (run : Run ℤ) → ways.IsRunLow s run → IsRunLow run
@@ -272,7 +272,7 @@ module _ (tree : BoxTree) (w : World) (own turned : ℕ → Bounds) (s t : ℕ) 
     block = λ e r. record { y = top; reached = h; same = refl };
   }
     where
-      n : within.IsNext tree w own turned s t fine boxes apart alone_in inside h.flows.b cb k
+      n : within.IsNext tree w own turned s t fine boxes apart independent_in inside h.flows.b cb k
       n = h.flows.next
 
       narrow : AreInside h.flows.b reach
@@ -287,8 +287,8 @@ module _ (tree : BoxTree) (w : World) (own turned : ℕ → Bounds) (s t : ℕ) 
       let n = h.flows.next in
       let f = frame cb k y in
       let narrow = inside-reach b (rises k) h.flows.room in
-      let into = walk.start-kept tree w own turned s t fine boxes apart alone_in cb c k y cleared h in
-      let done = within.laid-context-in tree w own turned s t fine boxes apart alone_in inside b cb c k h.flows.ks y (walk.inside-all tree w own turned s t fine boxes apart alone_in lines_small k) n h.flows.begun h.top in
+      let into = walk.start-kept tree w own turned s t fine boxes apart independent_in cb c k y cleared h in
+      let done = within.laid-context-in tree w own turned s t fine boxes apart independent_in inside b cb c k h.flows.ks y (walk.inside-all tree w own turned s t fine boxes apart independent_in lines_small k) n h.flows.begun h.top in
       record {
         least = levels-wider b reach (option_to_list c.least) narrow h.flows.begun.least;
         around = record {
@@ -308,8 +308,8 @@ module _ (tree : BoxTree) (w : World) (own turned : ℕ → Bounds) (s t : ℕ) 
       let n = h.flows.next in
       let f = frame cb k y in
       let narrow = inside-reach b (rises k) h.flows.room in
-      let into = walk.go-on-kept tree w own turned s t fine boxes apart alone_in cb c k y cleared h in
-      let done = within.laid-block-in tree w own turned s t fine boxes apart alone_in inside b cb c k h.flows.ks y cleared (walk.inside-all tree w own turned s t fine boxes apart alone_in lines_small k) n h.flows.begun h.top h.pends in
+      let into = walk.go-on-kept tree w own turned s t fine boxes apart independent_in cb c k y cleared h in
+      let done = within.laid-block-in tree w own turned s t fine boxes apart independent_in inside b cb c k h.flows.ks y cleared (walk.inside-all tree w own turned s t fine boxes apart independent_in lines_small k) n h.flows.begun h.top h.pends in
       record {
         least = levels-wider b reach (option_to_list c.least) narrow h.flows.begun.least;
         around = record {
@@ -327,7 +327,7 @@ module _ (tree : BoxTree) (w : World) (own turned : ℕ → Bounds) (s t : ℕ) 
   place-fits : (p : Place) → Here p → PlaceFits tree w apart Here p
   place-fits (before_content k cb top c) h = content-fits k cb top c h
   place-fits (before_children cb top c []) h = tt
-  place-fits (before_children cb top c (k ∷ ks)) h = record { first = walk.first-kept tree w own turned s t fine boxes apart alone_in cb top c k ks h; others = walk.others-kept tree w own turned s t fine boxes apart alone_in lines_small cb top c k ks h }
+  place-fits (before_children cb top c (k ∷ ks)) h = record { first = walk.first-kept tree w own turned s t fine boxes apart independent_in cb top c k ks h; others = walk.others-kept tree w own turned s t fine boxes apart independent_in lines_small cb top c k ks h }
   place-fits (before_child cb top c k) h = child-fits cb top c k h
   place-fits (before_flow cb c k) h = flow-fits cb c k h
   place-fits (when_reached cb c k y cleared) h = laid-fits cb c k y cleared h

@@ -7,13 +7,13 @@ use Rattle.viz_base.specs.declared.layouts.Spot.{Spot}
 use Rattle.viz_base.specs.declared.trees.BoxTree.{BoxTree}
 use Rattle.viz_base.specs.declared.worlds.World.{World}
 use Rattle.layout_semantics.specs.Floats.{FloatBox, floating, float_spot, with_float_at}
-use Rattle.layout_semantics.specs.Flow.{Alone}
+use Rattle.layout_semantics.specs.Flow.{Independent}
 use Rattle.layout_semantics.specs.Rectangles.{shifted}
 use Rattle.flow_steps.specs.Flow.{Standing, Context, Laid, Met, met, next_edge}
 use Rattle.lay_flow.specs.Readings.{without_boxes}
 use Rattle.lay_flow.specs.steps.Flow.{Ending, ending_of, float_of, reached_of, laid_of, standing_after, in_flow}
 
-module _ (tree : BoxTree) (w : World) (apart : ℕ → Alone) (cb : Band ℤ) (top : ℤ) (s : Context) (k : ℕ) where
+module _ (tree : BoxTree) (w : World) (apart : ℕ → Independent) (cb : Band ℤ) (top : ℤ) (s : Context) (k : ℕ) where
   -- where a float stands, by what was found of its size and of the place where it comes
   spot-found : (size : Extent ℤ) (edge y : ℤ) (spot : Spot ℤ) → size ≡ (apart k).size → edge ≡ next_edge s.standing → y ≡ int_max top edge
       → spot ≡ float_spot (floating tree k size cb) s.floats s.least y
@@ -37,7 +37,7 @@ module _ (tree : BoxTree) (w : World) (apart : ℕ → Alone) (cb : Band ℤ) (t
   unfolding float_of
   float-boxes size edge y spot sized at comes is = ap (λ p. shifted p (apart k).boxes) (spot-found size edge y spot sized at comes is)
 
-module _ (tree : BoxTree) (w : World) (apart : ℕ → Alone) (cb : Band ℤ) (s : Context) (b : ℕ) where
+module _ (tree : BoxTree) (w : World) (apart : ℕ → Independent) (cb : Band ℤ) (s : Context) (b : ℕ) where
   -- a standing asks nothing of the cleared box ahead
   after-same : (before : Standing) (m : Met) (end : Ending)
       → standing_after tree w cb before b (met (record m.reached { cleared = None }) m.run) end ≡ standing_after tree w cb before b m end

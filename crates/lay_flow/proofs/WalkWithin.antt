@@ -4,8 +4,8 @@ use Rattle.std.specs.List.{AllByRecursion}
 use Rattle.viz_base.specs.declared.layouts.Band.{Band}
 use Rattle.viz_base.specs.declared.trees.BoxTree.{BoxTree}
 use Rattle.viz_base.specs.declared.worlds.World.{World}
-use Rattle.layout_semantics.specs.Flow.{Alone, Cleared}
-use Rattle.layout_semantics.specs.FlowBoxes.{across, content_from, flow_children, is_open_above}
+use Rattle.layout_semantics.specs.Flow.{Independent, Cleared}
+use Rattle.layout_semantics.specs.FlowBoxes.{inline_size, content_from, flow_children, is_open_above}
 use Rattle.layout_semantics.specs.Horizontal.{widths}
 use Rattle.layout_semantics.specs.InlineContent.{has_line, is_floated_at}
 use Rattle.layout_semantics.specs.Order.{IsOnPage}
@@ -17,7 +17,7 @@ use Rattle.flow_steps.specs.Flow as flow
 use Rattle.flow_steps.specs.Flow.{Context, Standing, Step, at_top, below, fresh, content_of}
 use Rattle.flow_steps.proofs.Sound.{IsFlowKid, IsSound, flow-sound}
 use Rattle.page_limits.specs.Bounds.{Bounds, AreInside, grown, all_around, together, IsBandIn, IsLevelIn}
-use Rattle.page_limits.specs.Boxes.{IsAloneIn, IsBoxSmall, IsWhole}
+use Rattle.page_limits.specs.Boxes.{IsIndependentIn, IsBoxSmall, IsWhole}
 use Rattle.page_limits.specs.Inline.{IsContentSmall}
 use Rattle.page_limits.specs.Rises.{content_rise}
 use Rattle.page_limits.proofs.Ahead.{IsPending, enter-pending, rise}
@@ -36,7 +36,7 @@ use Rattle.lay_flow.specs.steps.Flow as named
 use Rattle.lay_flow.specs.steps.Flow.{child_of}
 
 module _ (tree : BoxTree) (w : World) (own turned : ℕ → Bounds) (s t : ℕ) (fine : 8 * t ≤ s)
-    (boxes : (k : ℕ) → IsOnPage tree.boxes k → IsWhole tree k → IsBoxSmall tree w t k) (apart : ℕ → Alone) (alone_in : (k : ℕ) → IsAloneIn (own k) s (apart k)) where
+    (boxes : (k : ℕ) → IsOnPage tree.boxes k → IsWhole tree k → IsBoxSmall tree w t k) (apart : ℕ → Independent) (independent_in : (k : ℕ) → IsIndependentIn (own k) s (apart k)) where
   abbrev content : ℕ → Band ℤ → ℤ → Context → Step
   content = content_of tree w apart
 
@@ -44,10 +44,10 @@ module _ (tree : BoxTree) (w : World) (own turned : ℕ → Bounds) (s t : ℕ) 
   rises k = rise tree own turned s k
 
   abbrev Kid : Band ℤ → ℕ → Type 0
-  Kid cb k = IsFlowKid tree w k (across cb)
+  Kid cb k = IsFlowKid tree w k (inline_size cb)
 
   abbrev IsContext : Bounds → List ℕ → Context → Type 0
-  IsContext b ks c = within.IsContextIn tree w own turned s t fine boxes apart alone_in b ks c
+  IsContext b ks c = within.IsContextIn tree w own turned s t fine boxes apart independent_in b ks c
 
   -- so far a page goes at most
   abbrev pub most : Bounds
@@ -97,7 +97,7 @@ module _ (tree : BoxTree) (w : World) (own turned : ℕ → Bounds) (s t : ℕ) 
   pub record FlowIn (cb : Band ℤ) (c : Context) (k : ℕ) : Type 0 where
     pub b : Bounds
     pub ks : List ℕ
-    pub next : within.IsNext tree w own turned s t fine boxes apart alone_in content b cb k
+    pub next : within.IsNext tree w own turned s t fine boxes apart independent_in content b cb k
     pub begun : IsContext b (k ∷ ks) c
     pub ahead : IsAheadLow c.standing
     pub room : AreInside (grown b (rises k)) most
@@ -112,7 +112,7 @@ module _ (tree : BoxTree) (w : World) (own turned : ℕ → Bounds) (s t : ℕ) 
   pub record FramedIn (cb : Band ℤ) (c : Context) (k : ℕ) (cleared : Cleared) (f : Frame) : Type 0 where
     pub y : ℤ
     pub reached : ReachedIn cb c k y cleared
-    pub same : f ≡ flow.frame_at tree w k (across cb) cb.left y
+    pub same : f ≡ flow.frame_at tree w k (inline_size cb) cb.left y
 
   abbrev pub Within : Place → Type 0
   Within (before_content k cb top c) = ContentIn k cb top c
@@ -156,15 +156,15 @@ module _ (tree : BoxTree) (w : World) (own turned : ℕ → Bounds) (s t : ℕ) 
 
   -- to those after the first, where the lines of each box are small
   module _ (lines_small : (n k : ℕ) (left wide : ℤ) → IsSound tree w k wide → has_line tree k ≡ true
-      → IsContentSmall (line_context tree w own turned s t fine boxes apart alone_in n k left wide) own turned s) where
-    pub inside-all : (k : ℕ) → within.IsInside tree w own turned s t fine boxes apart alone_in content k
-    inside-all k = content-in tree w own turned s t fine boxes apart alone_in lines_small (length tree.boxes) k
+      → IsContentSmall (line_context tree w own turned s t fine boxes apart independent_in n k left wide) own turned s) where
+    pub inside-all : (k : ℕ) → within.IsInside tree w own turned s t fine boxes apart independent_in content k
+    inside-all k = content-in tree w own turned s t fine boxes apart independent_in lines_small (length tree.boxes) k
 
     pub others-kept : (cb : Band ℤ) (top : ℤ) (c : Context) (k : ℕ) (ks : List ℕ) → ChildrenIn cb top c (k ∷ ks) → ChildrenIn cb top (child_of tree w apart cb top c k).context ks
     others-kept cb top c k ks h =
         let u = h.room.up in let d = h.room.down in let a = h.room.aside in
         let i = inside-grown h.b (rises k) in
-        let done = within.child-in tree w own turned s t fine boxes apart alone_in content h.b cb top c k ks (inside-all k) h.there.0 h.kids.0 h.band h.at h.begun in
+        let done = within.child-in tree w own turned s t fine boxes apart independent_in content h.b cb top c k ks (inside-all k) h.there.0 h.kids.0 h.band h.at h.begun in
         record {
           b = grown h.b (rises k);
           there = h.there.1;
@@ -182,38 +182,38 @@ module _ (tree : BoxTree) (w : World) (own turned : ℕ → Bounds) (s t : ℕ) 
   kid-whole cb k i f = flow-whole tree w k (i.flow f)
 
   -- what is in a box, with its frame
-  pub inner-kept : (cb : Band ℤ) (c : Context) (k : ℕ) (y : ℤ) (cleared : Cleared) (inner : Context) → (h : ReachedIn cb c k y cleared) → let f = flow.frame_at tree w k (across cb) cb.left y in
-      IsContext (within.within tree w own turned s t fine boxes apart alone_in content h.flows.b) (flow_children tree k) inner → IsAheadLow inner.standing → ContentIn k (content_from cb.left f.x) (content_top f) inner
+  pub inner-kept : (cb : Band ℤ) (c : Context) (k : ℕ) (y : ℤ) (cleared : Cleared) (inner : Context) → (h : ReachedIn cb c k y cleared) → let f = flow.frame_at tree w k (inline_size cb) cb.left y in
+      IsContext (within.within tree w own turned s t fine boxes apart independent_in content h.flows.b) (flow_children tree k) inner → IsAheadLow inner.standing → ContentIn k (content_from cb.left f.x) (content_top f) inner
   inner-kept cb c k y cleared inner h begun ahead =
       let b = h.flows.b in
       let n = h.flows.next in
-      let f = flow.frame_at tree w k (across cb) cb.left y in
-      let frame = within.frame-in tree w own turned s t fine boxes apart alone_in content b cb k y n h.top in
+      let f = flow.frame_at tree w k (inline_size cb) cb.left y in
+      let frame = within.frame-in tree w own turned s t fine boxes apart independent_in content b cb k y n h.top in
       record {
         b = grown (grown b (all_around (4 * s))) (all_around (16 * s));
         left = cb.left;
-        wide = across cb;
+        wide = inline_size cb;
         same = refl;
         sound = n.1.sound;
         whole = kid-whole cb k n.1 n.2;
         there = n.0;
-        band = within.inner-band tree w own turned s t fine boxes apart alone_in content cb.left b f refl frame;
+        band = within.inner-band tree w own turned s t fine boxes apart independent_in content cb.left b f refl frame;
         at = frame.top;
         begun = begun;
         ahead = ahead;
         room = inside-more (grown (grown (grown b (all_around (4 * s))) (all_around (16 * s))) (content_rise tree own turned s k)) (grown b (rises k)) most
-            (within.inner-wide tree w own turned s t fine boxes apart alone_in content b k n.2) h.flows.room;
+            (within.inner-wide tree w own turned s t fine boxes apart independent_in content b k n.2) h.flows.room;
       }
 
   -- of one that starts a context, and of one that goes on with that around it
-  pub start-kept : (cb : Band ℤ) (c : Context) (k : ℕ) (y : ℤ) (cleared : Cleared) → ReachedIn cb c k y cleared → let f = flow.frame_at tree w k (across cb) cb.left y in
+  pub start-kept : (cb : Band ℤ) (c : Context) (k : ℕ) (y : ℤ) (cleared : Cleared) → ReachedIn cb c k y cleared → let f = flow.frame_at tree w k (inline_size cb) cb.left y in
       ContentIn k (content_from cb.left f.x) (content_top f) (fresh (content_top f))
   start-kept cb c k y cleared h =
-      let f = flow.frame_at tree w k (across cb) cb.left y in
-      let frame = within.frame-in tree w own turned s t fine boxes apart alone_in content h.flows.b cb k y h.flows.next h.top in
+      let f = flow.frame_at tree w k (inline_size cb) cb.left y in
+      let frame = within.frame-in tree w own turned s t fine boxes apart independent_in content h.flows.b cb k y h.flows.next h.top in
       inner-kept cb c k y cleared (fresh (content_top f)) h (record { standing = (frame.top, none-low s); floats = tt; least = tt; baseline = tt }) tt
 
-  pub go-on-kept : (cb : Band ℤ) (c : Context) (k : ℕ) (y : ℤ) (cleared : Cleared) → ReachedIn cb c k y cleared → let f = flow.frame_at tree w k (across cb) cb.left y in
+  pub go-on-kept : (cb : Band ℤ) (c : Context) (k : ℕ) (y : ℤ) (cleared : Cleared) → ReachedIn cb c k y cleared → let f = flow.frame_at tree w k (inline_size cb) cb.left y in
       ContentIn k (content_from cb.left f.x) (content_top f) (named.opened c f (named.standing_in tree k cleared f))
   unfolding named.opened named.standing_in
   go-on-kept cb c k y cleared h = by (is_open_above tree k)
@@ -225,20 +225,20 @@ module _ (tree : BoxTree) (w : World) (own turned : ℕ → Bounds) (s t : ℕ) 
       near = grown b (all_around (4 * s))
 
       f : Frame
-      f = flow.frame_at tree w k (across cb) cb.left y
+      f = flow.frame_at tree w k (inline_size cb) cb.left y
 
-      frame : within.IsFrameIn tree w own turned s t fine boxes apart alone_in content b f
-      frame = within.frame-in tree w own turned s t fine boxes apart alone_in content b cb k y h.flows.next h.top
+      frame : within.IsFrameIn tree w own turned s t fine boxes apart independent_in content b f
+      frame = within.frame-in tree w own turned s t fine boxes apart independent_in content b cb k y h.flows.next h.top
 
       entered : (o : Cleared) → IsPending tree own turned s near (k ∷ h.flows.ks) o → IsPending tree own turned s (grown near (all_around (16 * s))) (flow_children tree k) o
       entered None q = tt
       entered (Some d) q = enter-pending tree own turned s near k h.flows.ks d.0 d.1 h.flows.next.2 q
 
-      begun : (st : Standing) → within.IsStandingIn tree w own turned s t fine boxes apart alone_in (grown near (all_around (16 * s))) (flow_children tree k) st → IsAheadLow st
+      begun : (st : Standing) → within.IsStandingIn tree w own turned s t fine boxes apart independent_in (grown near (all_around (16 * s))) (flow_children tree k) st → IsAheadLow st
           → ContentIn k (content_from cb.left f.x) (content_top f) (flow.opened tree w content apart c f st)
       begun st q a =
           inner-kept cb c k y cleared (flow.opened tree w content apart c f st) h
-          (within.opened-in tree w own turned s t fine boxes apart alone_in content b c f (k ∷ h.flows.ks) (flow_children tree k) st frame h.flows.begun q) a
+          (within.opened-in tree w own turned s t fine boxes apart independent_in content b c f (k ∷ h.flows.ks) (flow_children tree k) st frame h.flows.begun q) a
 
       by : (o : Bool) → ContentIn k (content_from cb.left f.x) (content_top f) (flow.opened tree w content apart c f (elim o as (λ _. Standing) [ true ↦ at_top f.corner.y cleared | false ↦ below (content_top f) no_run false ]))
       by true = begun (at_top f.corner.y cleared) (level-wider near (grown near (all_around (16 * s))) f.corner.y (inside-grown near (all_around (16 * s))) frame.y, entered cleared h.pends) h.cleared_low

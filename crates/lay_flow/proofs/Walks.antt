@@ -3,12 +3,12 @@ use Rattle.std.proofs.Common.{◌≡◌, ℕ, zero, suc, ◌<◌, ◌+◌, ℤ, 
 use Rattle.viz_base.specs.declared.layouts.Band.{Band}
 use Rattle.viz_base.specs.declared.trees.BoxTree.{BoxTree}
 use Rattle.viz_base.specs.declared.worlds.World.{World}
-use Rattle.layout_semantics.specs.Flow.{Alone, Cleared}
+use Rattle.layout_semantics.specs.Flow.{Independent, Cleared}
 use Rattle.layout_semantics.specs.Rectangles.{Frame}
 use Rattle.flow_steps.specs.Flow.{Context}
 use Rattle.lay_flow.specs.WalkFits.{Place, before_content, before_children, before_child, before_flow, when_reached, when_starting, when_going_on, ContentFits, ChildrenFit, ChildFits, FlowFits, LaidFits, AroundFits, StartFits, GoOnFits, PlaceFits, FitsTo, WalkFits, inner_end}
 
-module _ (tree : BoxTree) (w : World) (apart : ℕ → Alone) where
+module _ (tree : BoxTree) (w : World) (apart : ℕ → Independent) where
   abbrev Walk : Place → Type 0
   Walk p = WalkFits tree w apart p
 

@@ -10,7 +10,7 @@ use Rattle.viz_base.specs.declared.trees.BoxTree.{BoxTree}
 use Rattle.viz_base.specs.declared.worlds.World.{World}
 use Rattle.viz_base.proofs.ListLemmas.{all_append}
 use Rattle.layout_semantics.specs.Floats.{FloatBox}
-use Rattle.layout_semantics.specs.FlowBoxes.{flow_children, across, block_band}
+use Rattle.layout_semantics.specs.FlowBoxes.{flow_children, inline_size, block_band}
 use Rattle.layout_semantics.specs.Horizontal.{flow_widths}
 use Rattle.layout_semantics.specs.InlineContent.{is_floated_at}
 use Rattle.layout_semantics.specs.Order.{IsOnPage}
@@ -46,12 +46,12 @@ at-place P (k ∷ ks) (suc i) a l = at-place P ks i a.1 (omega (arith, l))
 
 module _ (tree : BoxTree) (w : World) (own turned : ℕ → Bounds) (s t : ℕ) (fine : 8 * t ≤ s)
     (boxes : (k : ℕ) → IsOnPage tree.boxes k → IsWhole tree k → IsBoxSmall tree w t k) (low : s ≤ 2 ^ 80)
-    (fits : (cb : Band ℤ) (k : ℕ) → IsFlowKid tree w k (across cb) → is_floated_at tree k ≡ false → IsBandLow cb → BoxFits tree w cb k) where
+    (fits : (cb : Band ℤ) (k : ℕ) → IsFlowKid tree w k (inline_size cb) → is_floated_at tree k ≡ false → IsBandLow cb → BoxFits tree w cb k) where
   abbrev rises : ℕ → Bounds
   rises k = rise tree own turned s k
 
   abbrev Kid : Band ℤ → ℕ → Type 0
-  Kid cb k = IsFlowKid tree w k (across cb)
+  Kid cb k = IsFlowKid tree w k (inline_size cb)
 
   abbrev IsRunIn : Run ℤ → Type 0
   IsRunIn run = within.IsRunLow s run

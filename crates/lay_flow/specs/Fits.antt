@@ -13,9 +13,9 @@ use Rattle.layout_semantics.specs.Horizontal.{placing_of, widths}
 use Rattle.layout_semantics.specs.Preferred.{preferred}
 use Rattle.layout_semantics.specs.Replaced.{by_ratio, intrinsic, replaced_size}
 use Rattle.layout_semantics.specs.Verticals.{verticals}
-use Rattle.lay_width.specs.Fitting.{VerticalsFit, HeldFits, in_block, WidthsFit, DefiniteFits_to, HeightFits, GivenFits, ReplacedFits}
+use Rattle.lay_width.specs.Fitting.{VerticalsFit, ClampedFits, in_block, WidthsFit, DefiniteFits_to, HeightFits, GivenFits, ReplacedFits}
 use Rattle.page_limits.specs.Bounds.{Bounds, all_around, IsPlacedIn}
-use Rattle.page_limits.specs.Boxes.{AreWidthsSmall, AreSidesSmall, IsHeightHeld}
+use Rattle.page_limits.specs.Boxes.{AreWidthsSmall, AreSidesSmall, IsHeightClamped}
 use Rattle.page_limits.specs.Inline.{IsSmall}
 use Rattle.lay_flow.specs.Low.{reach}
 
@@ -47,12 +47,12 @@ module _ (tree : BoxTree) (w : World) (b : ℕ) where
   -- its height, given or of its content, and its maximum and minimum
   pub record IsHeightFit : Type 0 where
     pub given : GivenFits tree w b
-    pub limits : HeldFits tree w b (definite_height tree w b)
-    pub held : (auto : ℤ) → IsHeightHeld (2 ^ 90) auto (content_height tree w b auto)
+    pub limits : ClampedFits tree w b (definite_height tree w b)
+    pub clamped : (auto : ℤ) → IsHeightClamped (2 ^ 90) auto (content_height tree w b auto)
 
   -- its terms across and down, before its height
   pub record IsShapeFit (room : ℤ) : Type 0 where
-    pub across : WidthsFit (in_block tree w b room) (placing_of tree b) (preferred tree w b)
+    pub inline_size : WidthsFit (in_block tree w b room) (placing_of tree b) (preferred tree w b)
     pub down : VerticalsFit tree w b room
     pub widths : AreWidthsSmall (2 ^ 90) (widths tree w b room)
     pub sides : AreSidesSmall (2 ^ 90) (verticals tree w b room)

@@ -6,4 +6,4 @@ pub mod WayFits
 pub mod Tries
 pub mod Ways
 pub mod WalkFits
-pub mod AloneFits
+pub mod IndependentFits

@@ -4,7 +4,7 @@ use Rattle.std.specs.List.{AllByRecursion}
 use Rattle.std.specs.Option.{option_to_list}
 use Rattle.viz_base.specs.declared.layouts.Band.{Band}
 use Rattle.viz_base.specs.declared.layouts.Waiting.{Waiting}
-use Rattle.layout_semantics.specs.Flow.{Alone, Cleared}
+use Rattle.layout_semantics.specs.Flow.{Independent, Cleared}
 use Rattle.layout_semantics.specs.Rectangles.{Frame}
 use Rattle.layout_semantics.specs.Clearance.{Base, hangs, stands}
 use Rattle.lay_margin.specs.declared.runs.Run.{Run}
@@ -54,13 +54,13 @@ pub record IsFrameLow (f : Frame) : Type 0 where
   pub top : IsLevelLow f.corner.y
 
 -- a box in coordinates of its own
-pub record IsAloneLow (a : Alone) : Type 0 where
+pub record IsIndependentLow (a : Independent) : Type 0 where
   pub size : IsExtentIn reach a.size
   pub baseline : AreLevelsLow a.baseline
   pub boxes : AllByRecursion (IsPlacedIn reach) a.boxes
 
-abbrev pub AreApartLow : (ℕ → Alone) → Type 0
-AreApartLow apart = (k : ℕ) → IsAloneLow (apart k)
+abbrev pub AreApartLow : (ℕ → Independent) → Type 0
+AreApartLow apart = (k : ℕ) → IsIndependentLow (apart k)
 
 -- ---- the way forward
 

@@ -1,7 +1,7 @@
 -- What the values of the flow mean at a reading.
 use Rattle.std.specs.Prelude.{ℕ, ℤ, List, [], map, Option, option_map}
 use Rattle.viz_calc.specs.World.{Reading}
-use Rattle.layout_semantics.specs.Flow.{Alone, Reached, Cleared}
+use Rattle.layout_semantics.specs.Flow.{Independent, Reached, Cleared}
 use Rattle.lay_float.specs.Readings.{floats_at, extent_at, option_at}
 use Rattle.lay_margin.specs.Readings as margins
 use Rattle.lay_margin.specs.Runs.{run_at}
@@ -15,7 +15,7 @@ use Rattle.lay_flow.specs.declared.parts.Cleared.{Cleared as ClearedBox}
 use Rattle.lay_flow.specs.declared.parts.Standing.{Standing}
 use Rattle.lay_flow.specs.declared.parts.Standing.TheVariants.{AtTop, Below}
 use Rattle.lay_flow.specs.declared.parts.Context.{Context}
-use Rattle.lay_flow.specs.declared.parts.Alone.{Alone as AloneBox}
+use Rattle.lay_flow.specs.declared.parts.Independent.{Independent as IndependentBox}
 use Rattle.lay_flow.specs.declared.parts.Base.{Base}
 use Rattle.lay_flow.specs.declared.parts.Base.TheVariants.{Hangs, Stands}
 use Rattle.lay_flow.specs.declared.parts.End.{End}
@@ -44,15 +44,15 @@ context_at at c e = record {
 
 -- ---- boxes in coordinates of their own
 
-abbrev pub alone_at : {N : Type 0} → (N → Reading → ℤ) → AloneBox N → Reading → Alone
-alone_at at a e =
+abbrev pub independent_at : {N : Type 0} → (N → Reading → ℤ) → IndependentBox N → Reading → Independent
+independent_at at a e =
     record { size = extent_at at a.size e; baseline = option_at at a.baseline e; boxes = boxes_at at a.boxes.items e }
 
-abbrev pub table_at : {N : Type 0} → (N → Reading → ℤ) → List (Option (AloneBox N)) → Reading → List (Option Alone)
-table_at at table e = map (λ o. option_map (λ a. alone_at at a e) o) table
+abbrev pub table_at : {N : Type 0} → (N → Reading → ℤ) → List (Option (IndependentBox N)) → Reading → List (Option Independent)
+table_at at table e = map (λ o. option_map (λ a. independent_at at a e) o) table
 
 -- the boxes of a table by their numbers
-unfoldable pub apart_at : {N : Type 0} → (N → Reading → ℤ) → List (Option (AloneBox N)) → Reading → ℕ → Alone
+unfoldable pub apart_at : {N : Type 0} → (N → Reading → ℤ) → List (Option (IndependentBox N)) → Reading → ℕ → Independent
 apart_at at table e = laid_at (table_at at table e)
 
 -- ---- the way forward

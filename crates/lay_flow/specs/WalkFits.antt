@@ -5,8 +5,8 @@ use Rattle.viz_base.specs.declared.layouts.Band.{Band}
 use Rattle.viz_base.specs.declared.trees.BoxTree.{BoxTree}
 use Rattle.viz_base.specs.declared.worlds.World.{World}
 use Rattle.viz_calc.specs.World.{Reading}
-use Rattle.layout_semantics.specs.Flow.{Alone, Cleared}
-use Rattle.layout_semantics.specs.FlowBoxes.{across, content_from, flow_children, is_context_root, is_replaced_at}
+use Rattle.layout_semantics.specs.Flow.{Independent, Cleared}
+use Rattle.layout_semantics.specs.FlowBoxes.{inline_size, content_from, flow_children, is_context_root, is_replaced_at}
 use Rattle.layout_semantics.specs.InlineContent.{has_line, is_floated_at}
 use Rattle.layout_semantics.specs.LineHeights.{InlineContext}
 use Rattle.layout_semantics.specs.Rectangles.{Frame, content_top}
@@ -14,7 +14,7 @@ use Rattle.lay_width.specs.Fitting.{VerticalsFit}
 use Rattle.lay_line.specs.LinesFit.{LinesFit}
 use Rattle.lay_preferred.specs.Fitting.{BoxesFit}
 use Rattle.flow_steps.specs.Flow.{Context, fresh}
-use Rattle.lay_flow.specs.Low.{AreApartLow, AreLevelsLow, IsAloneLow, IsAsideLow, IsBandLow, IsContextLow, IsFrameLow, IsLevelLow, IsRunLow, IsStandingLow}
+use Rattle.lay_flow.specs.Low.{AreApartLow, AreLevelsLow, IsIndependentLow, IsAsideLow, IsBandLow, IsContextLow, IsFrameLow, IsLevelLow, IsRunLow, IsStandingLow}
 use Rattle.lay_flow.specs.Fits.{IsEntryLow, IsHeightFit, IsNear, IsReplacedFit, IsShapeFit}
 use Rattle.lay_flow.specs.WayFits.{ReachFits}
 use Rattle.lay_flow.specs.steps.Flow.{block_of, child_of, content_of, frame_of, inner_table, lines_of, opened, reached_of, root_of, standing_in}
@@ -35,7 +35,7 @@ pub data Place : Type 0 where
   when_starting : Band ℤ → Context → ℕ → Frame → Place
   when_going_on : Band ℤ → Context → ℕ → Cleared → Frame → Place
 
-module _ (tree : BoxTree) (w : World) (apart : ℕ → Alone) where
+module _ (tree : BoxTree) (w : World) (apart : ℕ → Independent) where
   abbrev pub inline_context : ℕ → Band ℤ → InlineContext
   inline_context b cb = record { tree = tree; world = w; container = b; inner = inner_table tree w apart b; cb = cb }
 
@@ -53,14 +53,14 @@ module _ (tree : BoxTree) (w : World) (apart : ℕ → Alone) where
     pub so_far : IsContextLow s
     pub band : IsBandLow cb
     pub top_near : IsNear top
-    pub own : IsAloneLow (apart k)
+    pub own : IsIndependentLow (apart k)
 
-module _ (tree : BoxTree) (w : World) (apart : ℕ → Alone) where
+module _ (tree : BoxTree) (w : World) (apart : ℕ → Independent) where
   abbrev pub inner_end : ℕ → Band ℤ → ℤ → Context → Context
   inner_end b cb top s = (content_of tree w apart b cb top s).context
 
   abbrev pub frame_in : Band ℤ → ℕ → ℤ → Frame
-  frame_in cb b top = frame_of tree w b (across cb) cb.left top
+  frame_in cb b top = frame_of tree w b (inline_size cb) cb.left top
 
   -- what is asked at a place, by what is asked at the next ones
   module _ (next : Place → Type 0) where
@@ -83,17 +83,17 @@ module _ (tree : BoxTree) (w : World) (apart : ℕ → Alone) where
           (when_reached cb s b (reached_of tree w apart cb s b).reached.top
           (reached_of tree w apart cb s b).reached.cleared)
       pub band : IsBandLow cb
-      pub down : VerticalsFit tree w b (across cb)
+      pub down : VerticalsFit tree w b (inline_size cb)
       pub top_low : IsLevelLow (reached_of tree w apart cb s b).reached.top
       pub run : IsRunLow (reached_of tree w apart cb s b).run
 
     pub record LaidFits (cb : Band ℤ) (s : Context) (b : ℕ) (top : ℤ) (cleared : Cleared) : Type 0 where
       pub band : IsBandLow cb
       pub top_low : IsLevelLow top
-      pub shape : IsShapeFit tree w b (across cb)
+      pub shape : IsShapeFit tree w b (inline_size cb)
       pub frame : IsFrameLow (frame_in cb b top)
       pub least : AreLevelsLow s.least
-      pub replaced : is_replaced_at tree b ≡ true → IsReplacedFit tree w b (across cb)
+      pub replaced : is_replaced_at tree b ≡ true → IsReplacedFit tree w b (inline_size cb)
       pub root : is_replaced_at tree b ≡ false → is_context_root tree b ≡ true
           → next (when_starting cb s b (frame_in cb b top))
       pub block : is_replaced_at tree b ≡ false → is_context_root tree b ≡ false

@@ -8,7 +8,7 @@ use Rattle.viz_base.specs.declared.trees.BoxTree.{BoxTree}
 use Rattle.viz_base.specs.declared.worlds.World.{World}
 use Rattle.viz_calc.specs.State.{AllSmall}
 use Rattle.layout_semantics.specs.Floats.{FloatBox}
-use Rattle.layout_semantics.specs.Flow.{Alone, Cleared}
+use Rattle.layout_semantics.specs.Flow.{Independent, Cleared}
 use Rattle.layout_semantics.specs.FlowBoxes.{flow_children}
 use Rattle.layout_semantics.specs.InlineContent.{is_floated_at}
 use Rattle.layout_semantics.specs.Leads.{is_up_to, none_passed}
@@ -126,7 +126,7 @@ module _ (g : Ground) (go : Band ℤ → ℕ → Run ℤ → List (Waiting ℤ) 
 
 -- ---- where a box in flow is reached
 
-module _ (tree : BoxTree) (w : World) (apart : ℕ → Alone) (cb : Band ℤ) (s : Context) (b : ℕ) where
+module _ (tree : BoxTree) (w : World) (apart : ℕ → Independent) (cb : Band ℤ) (s : Context) (b : ℕ) where
   -- the way from a box in a context
   abbrev pub ForwardFits : Base → (ℕ → Bool) → Run ℤ → Type 0
   ForwardFits base passed run =

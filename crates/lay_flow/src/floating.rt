@@ -7,11 +7,11 @@ ghost use Rattle.lay_frame.specs.Readings.{boxes_at};
 ghost use Rattle.lay_float.specs.Readings.{extent_at};
 ghost use Rattle.lay_flow.specs.Readings.{apart_at};
 ghost use Rattle.std.specs.List.{AllByRecursion};
-ghost use Rattle.lay_flow.specs.Low.{IsAloneLow, reach};
+ghost use Rattle.lay_flow.specs.Low.{IsIndependentLow, reach};
 ghost use Rattle.page_limits.specs.Bounds.{IsExtentIn, IsPlacedIn, IsQuadIn};
 ghost use Rattle.lay_flow.specs.Fits.{IsSpotNear};
 
-use crate::parts::Alone;
+use crate::parts::Independent;
 use lay_frame::lists::append;
 use lay_length::lengths::zero;
 use viz_base::{Extent, Placed, Quad, Spot};
@@ -29,13 +29,17 @@ fn copy_extent<S: Steady>(calc: &mut S, size: &Extent<S::Num>) -> Extent<S::Num>
 
 #[tactic(auto, unfolding(crate::specs::Readings::apart_at))]
 /// The outer size of a float or an atomic box.
-pub fn size_of<S: Steady>(calc: &mut S, apart: &[Option<Alone<S::Num>>], at: u32) -> Extent<S::Num>
+pub fn size_of<S: Steady>(
+    calc: &mut S,
+    apart: &[Option<Independent<S::Num>>],
+    at: u32,
+) -> Extent<S::Num>
     ensures { Lays S.run calc.old calc.new (extent_at S.at result)
         (λ e. (apart_at S.at apart.now e at).size)
         (λ e. IsExtentIn reach (apart_at S.at apart.now e at).size) }
 {
     match apart.get(at as usize) {
-        Some(Some(alone)) => copy_extent(calc, &alone.size),
+        Some(Some(independent)) => copy_extent(calc, &independent.size),
         _ => {
             let width = zero(calc);
             let height = zero(calc);
@@ -107,7 +111,7 @@ fn add_each<S: Steady>(
 /// Adds a float or an atomic box, and all in it, at its place.
 pub fn add_apart<S: Steady>(
     calc: &mut S,
-    apart: &[Option<Alone<S::Num>>],
+    apart: &[Option<Independent<S::Num>>],
     at: u32,
     by: &Spot<S::Num>,
     out: &mut Vec<Placed<S::Num>>,
@@ -115,9 +119,9 @@ pub fn add_apart<S: Steady>(
     ensures { LaysButMem S.run calc.old calc.new (boxes_at S.at out.new.items)
         (λ e. boxes_at S.at out.old.items e
         ++ shifted (spot_at S.at by.now e) (apart_at S.at apart.now e at).boxes)
-        (λ e. IsSpotNear (spot_at S.at by.now e) × IsAloneLow (apart_at S.at apart.now e at)) }
+        (λ e. IsSpotNear (spot_at S.at by.now e) × IsIndependentLow (apart_at S.at apart.now e at)) }
 {
-    if let Some(Some(alone)) = apart.get(at as usize) {
-        add_each(calc, by, alone.boxes.as_slice(), out);
+    if let Some(Some(independent)) = apart.get(at as usize) {
+        add_each(calc, by, independent.boxes.as_slice(), out);
     }
 }

@@ -4,7 +4,7 @@ ghost use Rattle.viz_calc.specs.State.{WhereOpen};
 ghost use Rattle.viz_calc.specs.World.{Reading};
 ghost use Rattle.viz_calc.specs.Run.{Goes, BlamesButMem, Lays};
 ghost use Rattle.viz_calc.specs.Renderings.{placed_at, band_at};
-ghost use Rattle.layout_semantics.specs.FlowBoxes.{across as across_of};
+ghost use Rattle.layout_semantics.specs.FlowBoxes.{inline_size as inline_size_of};
 ghost use Rattle.layout_semantics.specs.Horizontal.{widths as widths_of};
 ghost use Rattle.lay_frame.specs.Readings.{frame_at};
 ghost use Rattle.lay_width.specs.Readings.{widths_at};
@@ -14,12 +14,12 @@ ghost use Rattle.lay_preferred.specs.Fitting.{BoxesFit};
 ghost use Rattle.lay_flow.specs.Low.{IsBandLow, IsContextLow, IsFrameLow, IsLevelLow};
 ghost use Rattle.lay_flow.specs.Fits.{IsHeightFit, IsReplacedFit, IsShapeFit};
 
-use crate::heights::{block_height, context_height, held, known_height, replaced_height};
+use crate::heights::{block_height, clamped, context_height, known_height, replaced_height};
 use crate::parts::{Context, Page};
 use lay_frame::boxes::joins_last_child;
 use lay_frame::frames::{Shape, content_top, verticals};
 use lay_frame::places::place;
-use lay_margin::leads::across;
+use lay_margin::leads::inline_size;
 use lay_preferred::engine::preferred;
 use lay_preferred::found::nothing_found;
 use lay_width::engine::{block, replaced_block, replaced_shrunk, shrunk};
@@ -72,15 +72,15 @@ pub fn shape<S: Steady>(
     ensures goes { Goes (S.run calc.old) (S.run calc.new) }
     ensures value { WhereOpen (S.run calc.new).is_open
         (λ e. frame_at S.at result e ≡ frame_of page.now.tree.now e.world b
-        (across_of (band_at S.at cb.now e)) (S.at cb.now.left e) (S.at top.now e)) }
+        (inline_size_of (band_at S.at cb.now e)) (S.at cb.now.left e) (S.at top.now e)) }
     ensures cause { BlamesButMem (S.run calc.old) (S.run calc.new)
         (BoxesFit page.now.tree.now (S.run calc.old).is_open
         × (WhereOpen (S.run calc.old).is_open
         (λ e. IsBandLow (band_at S.at cb.now e)
         × (IsLevelLow (S.at top.now e)
-        × IsShapeFit page.now.tree.now e.world b (across_of (band_at S.at cb.now e)))))) }
+        × IsShapeFit page.now.tree.now e.world b (inline_size_of (band_at S.at cb.now e)))))) }
 {
-    let room = across(calc, cb);
+    let room = inline_size(calc, cb);
     let x = widths(alloc, calc, page, b, &room);
     let v = verticals(calc, page.tree, b, &room);
     let left = calc.add(&cb.left, &x.margin_left);
@@ -131,7 +131,7 @@ pub fn context_box<S: Steady>(
             context_height(calc, &top, end)
         }
     };
-    let height = held(calc, page, b, height);
+    let height = clamped(calc, page, b, height);
     place(calc, page.tree, b, shape, &height)
 }
 
@@ -156,6 +156,6 @@ pub fn block_box<S: Steady>(
             block_height(calc, joins_last_child(page.tree, b), &top, &end.standing)
         }
     };
-    let height = held(calc, page, b, height);
+    let height = clamped(calc, page, b, height);
     place(calc, page.tree, b, shape, &height)
 }

@@ -1,6 +1,6 @@
 //! Heights of boxes (CSS 2.1, 10.5 to 10.7).
 ghost use Rattle.viz_calc.specs.Run.{Lays};
-ghost use Rattle.layout_semantics.specs.DefiniteHeights.{definite_height as definite_of, given_height, held_height};
+ghost use Rattle.layout_semantics.specs.DefiniteHeights.{definite_height as definite_of, given_height, clamped_height};
 ghost use Rattle.layout_semantics.specs.DefiniteHeights.{height_around as height_in};
 ghost use Rattle.layout_semantics.specs.Replaced.{replaced_size};
 ghost use Rattle.lay_margin.specs.Runs.{run_at};
@@ -63,9 +63,9 @@ pub fn known_height<S: Steady>(calc: &mut S, page: &Page<'_, S::Num>, b: u32) ->
 }
 
 /// A height of a box after its maximum and its minimum (CSS 2.1, 10.7).
-pub fn held<S: Steady>(calc: &mut S, page: &Page<'_, S::Num>, b: u32, height: S::Num) -> S::Num
+pub fn clamped<S: Steady>(calc: &mut S, page: &Page<'_, S::Num>, b: u32, height: S::Num) -> S::Num
     ensures { Lays S.run calc.old calc.new (S.at result)
-        (λ e. held_height page.now.tree.now e.world b (S.at height e))
+        (λ e. clamped_height page.now.tree.now e.world b (S.at height e))
         (λ e. IsHeightFit page.now.tree.now e.world b) }
 {
     let most = match most_height(page.tree, b) {
@@ -98,7 +98,7 @@ pub fn replaced_height<S: Steady>(
             by_ratio(calc, &width, size.0, size.1)
         }
     };
-    held(calc, page, b, height)
+    clamped(calc, page, b, height)
 }
 
 /// Where a child with no margin stands.

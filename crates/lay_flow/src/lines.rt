@@ -21,7 +21,7 @@ ghost use Rattle.flow_steps.specs.Flow.{line_tops};
 ghost use Rattle.lay_flow.specs.WalkFits.{InLinesFit};
 ghost use Rattle.lay_flow.specs.Readings.{apart_at, context_at};
 ghost use Rattle.lay_flow.specs.steps.Flow.{inner_of as inner_of_step, entry_of, inner_table as table_of, lines_of, in_lines as lines_step, filled_table};
-ghost use Rattle.lay_flow.specs.Low.{AreApartLow, AreLevelsLow, IsAloneLow};
+ghost use Rattle.lay_flow.specs.Low.{AreApartLow, AreLevelsLow, IsIndependentLow};
 ghost use Rattle.lay_flow.specs.Fits.{IsEntryLow, IsNear};
 
 use crate::floating::add_apart;
@@ -78,21 +78,21 @@ fn clips(tree: &BoxTree, b: u32) -> bool
 fn inner_of<S: Steady>(calc: &mut S, page: &Page<'_, S::Num>, at: u32) -> Inner<S::Num>
     ensures { Lays S.run calc.old calc.new (inner_at S.at result)
         (λ e. inner_of_step page.now.tree.now e.world (apart_at S.at page.now.apart.now e) at)
-        (λ e. IsAloneLow (apart_at S.at page.now.apart.now e at)) }
+        (λ e. IsIndependentLow (apart_at S.at page.now.apart.now e at)) }
 {
     match page.apart.get(at as usize) {
-        Some(Some(alone)) => {
-            let width = calc.copy(&alone.size.width);
-            let above = match &alone.baseline {
+        Some(Some(independent)) => {
+            let width = calc.copy(&independent.size.width);
+            let above = match &independent.baseline {
                 Some(baseline)
                     if !floats_at(page.tree, at)
                         && !is_replaced(page.tree, at)
                         && !clips(page.tree, at) => { calc.copy(baseline) }
                 // Floats and replaced boxes have no baseline, and one that clips counts by its margin edge
                 // (10.8.1).
-                _ => calc.copy(&alone.size.height),
+                _ => calc.copy(&independent.size.height),
             };
-            let below = calc.sub(&alone.size.height, &above);
+            let below = calc.sub(&independent.size.height, &above);
             Inner {
                 b: at,
                 width,

@@ -11,14 +11,14 @@ ghost use Rattle.lay_frame.specs.Readings.{boxes_at};
 ghost use Rattle.lay_preferred.specs.Readings.{AreFound};
 ghost use Rattle.lay_length.specs.Limits.{IsWithinLimits};
 ghost use Rattle.flow_steps.specs.Tables.{outside_of as outside, page_boxes};
-ghost use Rattle.lay_flow.specs.AloneFits.{BoxAddedFits, BoxesAddedFit, ContainerFits, PageComesFit, TableFits};
+ghost use Rattle.lay_flow.specs.IndependentFits.{BoxAddedFits, BoxesAddedFit, ContainerFits, PageComesFit, TableFits};
 ghost use Rattle.lay_flow.specs.WalkFits.{AllFit};
 ghost use Rattle.lay_flow.specs.Readings.{table_at};
 ghost use Rattle.lay_flow.specs.steps.Flow.{with_box, with_boxes, with_container as with_container_of, table_to};
 
-use crate::alone::{alone, room};
+use crate::independent::{independent, room};
 use crate::lines::inner_boxes;
-use crate::parts::{Alone, Page};
+use crate::parts::{Independent, Page};
 use lay_margin::contents::{floats_in, has_line, holds_inline};
 use lay_margin::trees::kids_at;
 use lay_preferred::found::{Found, nothing_found};
@@ -61,11 +61,11 @@ fn outside_of(alloc: Global, tree: &BoxTree, b: u32) -> Result<Vec<u32>, AllocEr
 /// Boxes that are laid out by themselves, each at the place of its number.
 #[derive(Drop)]
 struct Outside<N> {
-    places: Vec<Option<Alone<N>>>,
+    places: Vec<Option<Independent<N>>>,
 }
 
 /// Keeps a box that is laid out at the place of its number.
-fn keep<N: Drop>(table: &mut Outside<N>, k: u32, laid: Alone<N>)
+fn keep<N: Drop>(table: &mut Outside<N>, k: u32, laid: Independent<N>)
     ensures { table.new.places.items ≡ set table.old.places.items k (Some laid) }
 {
     if (k as usize) < table.places.len() {
@@ -99,7 +99,7 @@ fn add_box<S: Steady>(
         tree,
         apart: table.places.as_slice(),
     };
-    let laid = alone(alloc, calc, &page, found, k, &room);
+    let laid = independent(alloc, calc, &page, found, k, &room);
     keep(table, k, laid);
 }
 
@@ -246,7 +246,7 @@ fn boxes<S: Steady>(alloc: Global, calc: &mut S, tree: &BoxTree) -> Vec<Placed<S
         apart: table.places.as_slice(),
     };
     let room = calc.width();
-    alone(alloc, calc, &page, &mut found, 0, &room).boxes
+    independent(alloc, calc, &page, &mut found, 0, &room).boxes
 }
 
 /// The rendering of a page at each reading that is open at the end.

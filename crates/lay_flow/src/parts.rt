@@ -36,7 +36,7 @@ pub struct Context<N> {
 
 /// A box that is laid out in coordinates whose origin is the corner of its outer box.
 #[derive(Drop)]
-pub struct Alone<N> {
+pub struct Independent<N> {
     /// The size of its outer box.
     pub size: Extent<N>,
     /// The baseline of its last line.
@@ -50,7 +50,7 @@ pub struct Alone<N> {
 pub struct Page<'a, N> {
     pub tree: &'a BoxTree,
     /// The floats and atomic boxes that are laid out, by the number of their box.
-    pub apart: &'a [Option<Alone<N>>],
+    pub apart: &'a [Option<Independent<N>>],
 }
 
 /// The border edge at which a run of margins ends.

@@ -18,7 +18,7 @@ ghost use Rattle.lay_flow.specs.steps.Flow.{forward_of, opened, reached_from as 
 ghost use Rattle.lay_flow.specs.Low.{AreLevelsLow, IsBandLow, IsClearedLow, IsFrameLow, IsLevelLow, IsRunLow, IsStandingLow};
 ghost use Rattle.lay_flow.specs.Fits.{IsNear};
 ghost use Rattle.lay_width.specs.Fitting.{VerticalsFit};
-ghost use Rattle.layout_semantics.specs.FlowBoxes.{across as across_of};
+ghost use Rattle.layout_semantics.specs.FlowBoxes.{inline_size as inline_size_of};
 
 use crate::forward::{Way, forward};
 use crate::parts::{Base, Cleared, Context, End, Going, Laid, Met, Page, Reached, Standing};
@@ -360,7 +360,7 @@ pub fn standing_after<S: Steady>(
         (λ e. after_of tree.now e.world (band_at S.at cb.now e) (standing_at S.at before e) b
         (met_at S.at met e) (ending_at S.at laid e))
         (λ e. IsBandLow (band_at S.at cb.now e)
-        × (VerticalsFit tree.now e.world b (across_of (band_at S.at cb.now e))
+        × (VerticalsFit tree.now e.world b (inline_size_of (band_at S.at cb.now e))
         × (IsLevelLow (S.at met.reached.top e) × IsRunLow (run_at S.at met.own e)))) }
 {
     if !laid.through {

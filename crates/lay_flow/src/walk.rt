@@ -13,7 +13,7 @@ ghost use Rattle.flow_steps.specs.Flow.{fresh as fresh_of};
 ghost use Rattle.lay_flow.specs.WalkFits.{AllFit, WalkFits, before_content, before_children, before_child, before_flow, when_reached, when_starting, when_going_on};
 ghost use Rattle.lay_flow.specs.Readings.{apart_at, cleared_at, context_at, laid_with, without_boxes};
 ghost use Rattle.lay_flow.specs.steps.Flow.{float_of, left, laid_replaced as replaced_step, laid_context as context_step, laid_block as block_step, laid_of, in_flow, child_of, children_of, content_of};
-ghost use Rattle.lay_flow.specs.Low.{AreLevelsLow, IsAloneLow, IsBandLow, IsContextLow, IsFrameLow};
+ghost use Rattle.lay_flow.specs.Low.{AreLevelsLow, IsIndependentLow, IsBandLow, IsContextLow, IsFrameLow};
 ghost use Rattle.lay_flow.specs.Fits.{IsNear, IsReplacedFit};
 
 use crate::floating::{add_apart, size_of};
@@ -30,7 +30,7 @@ use lay_line::floating::place_float;
 use lay_margin::Run;
 use lay_margin::contents::{collapses_through, floats_in, has_line, holds_inline};
 use lay_margin::engine::empty;
-use lay_margin::leads::{across, content_between, join};
+use lay_margin::leads::{content_between, inline_size, join};
 use lay_margin::trees::{is_replaced, kids_at, starts_context};
 use lay_width::limits::greater;
 use lay_width::properties::floats_at;
@@ -82,7 +82,7 @@ fn float<S: Steady>(
         (WhereOpen (S.run calc.old).is_open
         (λ e. IsContextLow (context_at S.at context.old e)
         × (IsBandLow (band_at S.at cb.now e)
-        × (IsNear (S.at top.now e) × IsAloneLow (apart_at S.at page.now.apart.now e k))))) }
+        × (IsNear (S.at top.now e) × IsIndependentLow (apart_at S.at page.now.apart.now e k))))) }
     ensures agrees { Agree S.at (S.run calc.new).is_open context.new.floats }
 {
     let size = size_of(calc, page.apart, k);
@@ -339,7 +339,7 @@ fn lay<S: Steady>(
 {
     let shape = shape(alloc, calc, page, cb, b, top);
     if is_replaced(page.tree, b) {
-        let room = across(calc, cb);
+        let room = inline_size(calc, cb);
         return lay_replaced(calc, page, &room, context, b, &shape, out);
     }
     if starts_context(page.tree, b) {

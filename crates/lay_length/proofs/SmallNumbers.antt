@@ -19,14 +19,14 @@ size-max a b k l m = omega (arith, ints, clamps)
 pub size-min : (a b : ℤ) (k : ℕ) → unsigned_abs a ≤ k → unsigned_abs b ≤ k → unsigned_abs (int_min a b) ≤ k
 size-min a b k l m = omega (arith, ints, clamps)
 
--- a number held by a maximum and then by a minimum is from the minimum to the greater of both
-pub held-from : (most : Option ℤ) (least h : ℤ) → least ≤ℤ int_max (option_map_or (int_min h) most h) least
-held-from None least h = omega (arith, ints, clamps)
-held-from (Some m) least h = omega (arith, ints, clamps)
+-- a number clamped by a maximum and then by a minimum is from the minimum to the greater of both
+pub clamped-from : (most : Option ℤ) (least h : ℤ) → least ≤ℤ int_max (option_map_or (int_min h) most h) least
+clamped-from None least h = omega (arith, ints, clamps)
+clamped-from (Some m) least h = omega (arith, ints, clamps)
 
-pub held-to : (most : Option ℤ) (least h : ℤ) → int_max (option_map_or (int_min h) most h) least ≤ℤ int_max h least
-held-to None least h = omega (arith, ints, clamps)
-held-to (Some m) least h = omega (arith, ints, clamps)
+pub clamped-to : (most : Option ℤ) (least h : ℤ) → int_max (option_map_or (int_min h) most h) least ≤ℤ int_max h least
+clamped-to None least h = omega (arith, ints, clamps)
+clamped-to (Some m) least h = omega (arith, ints, clamps)
 
 pub size-between : (a b z : ℤ) (k : ℕ) → a ≤ℤ z → z ≤ℤ b → unsigned_abs a ≤ k → unsigned_abs b ≤ k → unsigned_abs z ≤ k
 size-between a b z k l m p q = omega (arith, ints)

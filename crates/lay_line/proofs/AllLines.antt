@@ -7,10 +7,10 @@ use Rattle.layout_semantics.specs.Floats.{FloatBox}
 use Rattle.layout_semantics.specs.InlineContent.{Item, content}
 use Rattle.layout_semantics.specs.LineHeights.{InlineContext}
 use Rattle.layout_semantics.specs.Lines.{SoFar, LaidLines, LineList, before_all, lines_in}
-use Rattle.layout_semantics.specs.Stretches.{may_part}
+use Rattle.layout_semantics.specs.Segments.{may_part}
 use Rattle.lay_line.specs.Items.{bare_of}
 use Rattle.lay_line.specs.Readings.{piece_at, pieces_at, parts_at}
-use Rattle.lay_line.specs.declared.stretches.Stretches.{Stretches}
+use Rattle.lay_line.specs.declared.segments.Segments.{Segments}
 use Rattle.lay_line.specs.steps.Lining.{laying, lined}
 use Rattle.lay_line.specs.steps.Loading.{bare, tallest_by}
 use Rattle.lay_line.specs.steps.Marks.{marks}
@@ -28,7 +28,7 @@ abbrev pub list_of : SoFar → List (Entry ℤ) → LineList
 list_of after entries = record { entries = entries; bottom = after.y; baseline = after.baseline; floats = after.floats }
 
 module _ {N : Type 0} (at : N → Reading → ℤ) (e : Reading) (c : InlineContext) (y least : ℤ) (floats : List FloatBox) where
-  pub lines-laid : (items : List Item) (s : Stretches N) (tall top highest : ℤ) (opened : List ℕ) (after : SoFar) (entries : List (Entry ℤ))
+  pub lines-laid : (items : List Item) (s : Segments N) (tall top highest : ℤ) (opened : List ℕ) (after : SoFar) (entries : List (Entry ℤ))
       → items ≡ content c.tree c.container → pieces_at at s.pieces.now e ≡ measured (width_in c) items → s.marks.now ≡ marks (may_part c.tree) None None items
       → tall ≡ tallest_by c (bare_of s.pieces.now) → top ≡ y → highest ≡ least → opened ≡ []
       → after ≡ (laying (length s.pieces.now) c tall (start_of top highest floats opened) (parts_at at s e)).after

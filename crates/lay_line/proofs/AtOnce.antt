@@ -1,4 +1,4 @@
--- A line takes stretches of words and spaces at once where it takes the last of them.
+-- A line takes segments of words and spaces at once where it takes the last of them.
 use Rattle.std.proofs.Common.{◌≡◌, ◌++◌, ◌⊎◌, inl, inr, ℕ, ◌+◌, ◌-◌, ◌<◌, ◌≤◌, length, take, ℤ, pos, ◌+ℤ◌, ◌≤ℤ◌, Bool, true, false, not, cond, ◌&&◌, ◌||◌, int_le, IsTrue, List, [], ◌∷◌, map, refl, sym, subst, ap, ◌∙◌, append_assoc, append-nil, arith}
 use Rattle.std.specs.List.{list_all, flat_map, AllByRecursion}
 use Rattle.std.proofs.lemmas.Int.{ints}
@@ -14,7 +14,7 @@ use Rattle.layout_semantics.specs.LineHeights.{InlineContext, LineExtent}
 use Rattle.lay_line.specs.Items.{bare_of}
 use Rattle.lay_line.specs.Readings.{piece_at, pieces_at, parts_at}
 use Rattle.lay_line.specs.declared.held.Piece.{Piece}
-use Rattle.lay_line.specs.declared.stretches.Stretches.{Stretches}
+use Rattle.lay_line.specs.declared.segments.Segments.{Segments}
 use Rattle.std.proofs.lemmas.Grind.{flat_map-append}
 use Rattle.lay_line.specs.steps.Held.{Held, with_item}
 use Rattle.lay_line.specs.steps.Leaping.{is_text, is_begun, is_plain, AreWide, IsLeap}
@@ -205,13 +205,13 @@ module _ {N : Type 0} (at : N → Reading → ℤ) (e : Reading) where
   read_plain [] p = tt
   read_plain (q ∷ parts) p = (subst (λ l. IsTrue (is_plain l)) (sym (bare-same at e q)) p.0, read_plain parts p.1)
 
-  read_parts : (from rest : Stretches N) (heads : List (List (Piece N))) → parts_of from.pieces.now from.marks.now ≡ heads ++ parts_of rest.pieces.now rest.marks.now
+  read_parts : (from rest : Segments N) (heads : List (List (Piece N))) → parts_of from.pieces.now from.marks.now ≡ heads ++ parts_of rest.pieces.now rest.marks.now
       → parts_at at from e ≡ map (λ p. pieces_at at p e) heads ++ parts_at at rest e
   read_parts from rest heads is = ap (map (λ p. pieces_at at p e)) is ∙ map-append (λ p. pieces_at at p e) heads (parts_of rest.pieces.now rest.marks.now)
 
-module _ {N : Type 0} (at : N → Reading → ℤ) (e : Reading) (c : InlineContext) (slot : Slot) (f : Load) (from rest : Stretches N) (first : List (Piece N)) (count most : ℕ)
+module _ {N : Type 0} (at : N → Reading → ℤ) (e : Reading) (c : InlineContext) (slot : Slot) (f : Load) (from rest : Segments N) (first : List (Piece N)) (count most : ℕ)
     (is : IsLeap (λ ps. is_plain (bare_of ps)) from.pieces.now from.marks.now first rest.pieces.now rest.marks.now count most) where
-  -- one stretch
+  -- one segment
   one_first : is.heads ≡ [] → parts_at at from e ≡ pieces_at at first e ∷ parts_at at rest e
   one_first none =
       read_parts at e from rest (is.head ∷ is.heads) is.parts
@@ -257,7 +257,7 @@ module _ {N : Type 0} (at : N → Reading → ℤ) (e : Reading) (c : InlineCont
           ∙ sym (ap (loading c slot f) (read_parts at e from rest (is.head ∷ is.heads) is.parts)
           ∙ at_once c slot parts f (parts_at at rest e) texts wide_first can.0 (subst (λ (x : Held). IsTrue (fits x.width (room_in c f.met.floats slot.top slot.tall))) held_is can.1))
 
--- ---- stretches one after another
+-- ---- segments one after another
 
 -- the first parts of a list, each of which passes, and what is behind them
 pub record Led {A : Type 0} (passes : List A → Bool) (xs : List A) (marks : List Bool) (rest : List A) (left : List Bool) (count most : ℕ) : Type 0 where

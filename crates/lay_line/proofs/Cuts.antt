@@ -4,7 +4,7 @@ use Rattle.std.specs.List.{AllByRecursion, prefix_len}
 use Rattle.std.proofs.lemmas.List.{reverse-append}
 use Rattle.viz_base.specs.declared.trees.BoxTree.{BoxTree}
 use Rattle.layout_semantics.specs.InlineContent.{Item, start, finish, word, space, atomic, forced, float}
-use Rattle.layout_semantics.specs.Stretches.{is_thing, until_thing, closed_run, is_after_last_end, is_after_its_ends, Parting, may_part, never, thing_before, is_break, cut_where, stretches, pieces}
+use Rattle.layout_semantics.specs.Segments.{is_thing, until_thing, closed_run, is_after_last_end, is_after_its_ends, Parting, may_part, never, thing_before, is_break, cut_where, segments, pieces}
 use Rattle.lay_line.specs.steps.Cutting.{leading_ends, break_in, one_less, is_here, parted, behind, place, left_after, cut}
 use Rattle.lay_line.proofs.Runs.{break-in}
 use Rattle.lay_line.proofs.Ends.{closed-begins, last-said, leading-same, same, less, here-none, here-some}
@@ -146,9 +146,9 @@ module _ (part : Parting) where
       ap (λ b. parted i b (cut_where (is_break part) (i ∷ back) (j ∷ items))) test
       ∙ ap (parted i (is_here (left_after part (find is_thing back) (carried back (i ∷ j ∷ items)) i (j ∷ items)))) (rest ∙ ap (λ o. cut part (find is_thing (i ∷ back)) o (j ∷ items)) next)
 
--- stretches and pieces are what one pass gives
-pub stretches-are : (tree : BoxTree) (items : List Item) → stretches tree items ≡ cut (may_part tree) None None items
-stretches-are tree items = cut-same (may_part tree) [] items
+-- segments and pieces are what one pass gives
+pub segments-are : (tree : BoxTree) (items : List Item) → segments tree items ≡ cut (may_part tree) None None items
+segments-are tree items = cut-same (may_part tree) [] items
 
 pub pieces-are : (items : List Item) → pieces items ≡ cut never None None items
 pieces-are items = cut-same never [] items

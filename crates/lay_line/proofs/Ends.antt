@@ -3,7 +3,7 @@ use Rattle.std.specs.Prelude.{◌&&◌, ◌||◌}
 use Rattle.std.specs.Option.{option_map_or}
 use Rattle.std.specs.List.{list_any, list_all, last_or}
 use Rattle.layout_semantics.specs.InlineContent.{Item}
-use Rattle.layout_semantics.specs.Stretches.{is_end, stays_open, closed_run, is_after_last_end, is_after_its_ends}
+use Rattle.layout_semantics.specs.Segments.{is_end, stays_open, closed_run, is_after_last_end, is_after_its_ends}
 use Rattle.lay_line.proofs.Lasts.{last_where}
 use Rattle.lay_line.specs.steps.Cutting.{leading_ends, one_less, is_here}
 

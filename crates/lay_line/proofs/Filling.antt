@@ -1,4 +1,4 @@
--- What is asked of a line that takes stretches, one stretch further on.
+-- What is asked of a line that takes segments, one segment further on.
 use Rattle.std.proofs.Common.{◌≡◌, ℕ, ◌+◌, ◌≤◌, ◌^◌, ℤ, unsigned_abs, List, [], ◌∷◌, ◌++◌, take, drop, refl, sym, subst, ap, ◌∙◌, arith}
 use Rattle.std.proofs.lemmas.List.{map-append, take-append-drop}
 use Rattle.viz_calc.specs.State.{AllSmall}
@@ -8,7 +8,7 @@ use Rattle.layout_semantics.specs.InlineContent.{Item, start, finish, word, spac
 use Rattle.layout_semantics.specs.LineFilling.{Met}
 use Rattle.layout_semantics.specs.LineHeights.{InlineContext}
 use Rattle.lay_line.specs.Items.{item_of, bare_of}
-use Rattle.lay_line.specs.Limits.{weight, held_size, PlacesFit, floats_reach, FillFits, RoomFits, HoldFits}
+use Rattle.lay_line.specs.Limits.{weight, held_size, PlacesFit, floats_reach, FillFits, RoomFits, ClampFits}
 use Rattle.lay_line.specs.Readings.{piece_at, pieces_at}
 use Rattle.lay_line.specs.declared.held.Piece.{Piece}
 use Rattle.lay_line.specs.steps.Held.{Held}
@@ -70,13 +70,13 @@ pub behind_places : (c : InlineContext) (slot : Slot) (held : ℤ) (met : Met) (
 behind_places c slot held met [] b p = p
 behind_places c slot held met (at ∷ a) b p = behind_places c slot held (met_next c slot held met at) a b (met_places c slot held met at (a ++ b) p)
 
--- ---- a stretch
+-- ---- a segment
 
 module _ (c : InlineContext) (slot : Slot) (load : Load) (first rest : List Measured) where
   parted : PlacesFit c load.met.floats slot.least slot.top (float_boxes (bare (first ++ rest))) → PlacesFit c load.met.floats slot.least slot.top (float_boxes (bare first) ++ float_boxes (bare rest))
   parted p = subst (λ (l : List ℕ). PlacesFit c load.met.floats slot.least slot.top l) (ap float_boxes (bare_joined first rest) ∙ boxes_joined (bare first) (bare rest)) p
 
-  pub first_holds : FillFits c slot load (first ++ rest) → HoldFits load.held first
+  pub first_holds : FillFits c slot load (first ++ rest) → ClampFits load.held first
   first_holds f = lower (held_size load.held) (weight first) (weight rest) (weight (first ++ rest)) (2 ^ 100) (weight_joined first rest) f.held
     where
       lower : (h a b all n : ℕ) → all ≡ a + b → h + all ≤ n → h + a ≤ n

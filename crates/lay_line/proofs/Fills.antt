@@ -5,12 +5,12 @@ use Rattle.std.proofs.lemmas.List.Sums.{fold-append}
 use Rattle.std.proofs.lemmas.List.Folds.{list_any-append}
 use Rattle.layout_semantics.specs.Floats.{band_at}
 use Rattle.layout_semantics.specs.InlineContent.{Item, float_boxes, makes_line}
-use Rattle.layout_semantics.specs.Stretches.{is_forced}
+use Rattle.layout_semantics.specs.Segments.{is_forced}
 use Rattle.layout_semantics.specs.LineHeights.{InlineContext, LineExtent}
-use Rattle.layout_semantics.specs.LineFilling.{Met, Line, fits, meet, item_width, width_held, joined, first_items, floats_met, met_after, may_hold, stretches_held}
+use Rattle.layout_semantics.specs.LineFilling.{Met, Line, fits, meet, item_width, width_held, joined, first_items, floats_met, met_after, may_hold, segments_held}
 use Rattle.lay_line.specs.steps.Held.{Held, nothing_held, with_items}
 use Rattle.layout_semantics.specs.Lines.{opened_after}
-use Rattle.lay_line.specs.steps.Filling.{Filled, with_item_box, extent_at_start, with_stretch, first_filled, takes, past, filled}
+use Rattle.lay_line.specs.steps.Filling.{Filled, with_item_box, extent_at_start, with_segment, first_filled, takes, past, filled}
 use Rattle.lay_line.specs.steps.Staying.{Span, no_items, span_after, spanned}
 use Rattle.lay_line.proofs.Widths.{width-same}
 
@@ -35,7 +35,7 @@ drop-next zero xs y ys e = ap (drop 1) e
 drop-next (suc n) [] y ys e = absurd (cc)
 drop-next (suc n) (x ∷ xs) y ys e = drop-next n xs y ys e
 
--- ---- a line with n stretches
+-- ---- a line with n segments
 
 module _ (c : InlineContext) (line : Line) (opened : List ℕ) where
   -- what the definitions say
@@ -53,9 +53,9 @@ module _ (c : InlineContext) (line : Line) (opened : List ℕ) where
       → width_held c (first_items line (suc n)) ≡ (with_items (item_width c) (with_items (item_width c) nothing_held (first_items line n)) part).width
   width-grows n part rest e = width-same c (first_items line (suc n)) ∙ ap (λ (h : Held). h.width) (held-grows n part rest e)
 
-  -- one stretch more is one step more
+  -- one segment more is one step more
   grows : (n : ℕ) (part : List Item) (rest : List (List Item)) → drop n line.parts ≡ part ∷ rest
-      → state (suc n) ≡ with_stretch c line (state n) part (floats_met c.tree n part) (with_items (item_width c) (state n).held part)
+      → state (suc n) ≡ with_segment c line (state n) part (floats_met c.tree n part) (with_items (item_width c) (state n).held part)
   grows n part rest e =
       let held = with_items (item_width c) (with_items (item_width c) nothing_held (first_items line n)) part in
       let one : ℤ → List Item → Met = λ w p. fold (meet c line w) (met_after c line n) (floats_met c.tree n p) in
@@ -85,7 +85,7 @@ module _ (c : InlineContext) (line : Line) (opened : List ℕ) where
       let back : n ≡ suc n - 1 = omega arith in
       ap (λ w. room w n) (sym (width-grows n part rest e)) ∙ (ap (room (width_held c (first_items line (suc n)))) back ∙ ap (may_hold c line) (sym q))
 
-  -- from n stretches on, the steps go as far as the definitions say
+  -- from n segments on, the steps go as far as the definitions say
   filled-same : (n m : ℕ) (rest : List (List Item)) → drop (suc n) line.parts ≡ rest → m ≡ suc (suc n)
       → filled c line (state (suc n)) rest ≡ state (suc n + prefix_len (may_hold c line) (range_with_len m (length rest)))
   filled-same n m [] e q = ap state (omega arith)
@@ -94,7 +94,7 @@ module _ (c : InlineContext) (line : Line) (opened : List ℕ) where
       ∙ by (may_hold c line m) (ap (λ f. filled c line f rest) (sym (grows (suc n) part rest e)) ∙ filled-same (suc n) (m + 1) rest (drop-next (suc n) line.parts part rest e) (omega arith))
     where
       next : Filled
-      next = with_stretch c line (state (suc n)) part (float_boxes part) (with_items (item_width c) (state (suc n)).held part)
+      next = with_segment c line (state (suc n)) part (float_boxes part) (with_items (item_width c) (state (suc n)).held part)
 
       more : ℕ
       more = prefix_len (may_hold c line) (range_with_len (m + 1) (length rest))
@@ -103,8 +103,8 @@ module _ (c : InlineContext) (line : Line) (opened : List ℕ) where
       by true again = again ∙ ap state (omega arith)
       by false again = ap state (omega arith)
 
-  -- stopping at the first stretch that doesn't fit gives as many as the line holds, with their width and the floats met
-  pub line-filled : (first : List Item) (rest : List (List Item)) → line.parts ≡ first ∷ rest → filled c line (first_filled c line opened first (with_items (item_width c) nothing_held first)) rest ≡ state (stretches_held c line)
+  -- stopping at the first segment that doesn't fit gives as many as the line holds, with their width and the floats met
+  pub line-filled : (first : List Item) (rest : List (List Item)) → line.parts ≡ first ∷ rest → filled c line (first_filled c line opened first (with_items (item_width c) nothing_held first)) rest ≡ state (segments_held c line)
   line-filled first rest e =
       let long = ap length e in
       let left : length rest ≡ length line.parts - 1 = omega (arith, long) in

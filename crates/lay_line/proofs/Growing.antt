@@ -13,7 +13,7 @@ use Rattle.layout_semantics.specs.LineFilling.{Met}
 use Rattle.layout_semantics.specs.LineHeights.{InlineContext, height_of_extent}
 use Rattle.layout_semantics.specs.Lines.{SoFar}
 use Rattle.lay_line.specs.Fits.{InlineFits}
-use Rattle.lay_line.specs.Limits.{AllWithin, weight, FloatsWithin, floats_reach, PlacesFit, RoomFits, HoldFits, FillFits, BoxesReach}
+use Rattle.lay_line.specs.Limits.{AllWithin, weight, FloatsWithin, floats_reach, PlacesFit, RoomFits, ClampFits, FillFits, BoxesReach}
 use Rattle.lay_line.specs.LinesFit.{FirstFits, EndFits, RestFits, LinesFit}
 use Rattle.lay_line.specs.steps.Held.{Held, nothing_held}
 use Rattle.lay_line.specs.steps.Lining.{no_floats, met_before, slot_for, first_load, full_line, empty_line, ended_line, joined_parts, taken, next_in}
@@ -167,8 +167,8 @@ module _ (c : InlineContext) (tall : ℤ) (now : SoFar) (first : List Measured) 
       at_half : {a : ℕ} → a ≤ before_fits.most → a ≤ 2 ^ 99
       at_half w = let le = most_half in omega arith
 
-  pub hold_fits : HoldFits nothing_held first
-  hold_fits = let one = weight_joined first (joined_parts rest) in let w = r.widths in omega arith
+  pub clamp_fits : ClampFits nothing_held first
+  clamp_fits = let one = weight_joined first (joined_parts rest) in let w = r.widths in omega arith
 
   pub before_places : PlacesFit c now.floats now.least now.y (float_boxes (bare first))
   before_places = record {
@@ -352,7 +352,7 @@ module _ (c : InlineContext) (tall : ℤ) (now : SoFar) (first : List Measured) 
       by true = after_full fewer
       by false = after_empty fewer
 
-  -- fewer are left where the first stretch has an item
+  -- fewer are left where the first segment has an item
   pub fewer_left : length (joined_parts rest) < length all → length (joined_parts full.1) < length all
   fewer_left l =
       let front = left_behind c slot load rest in

@@ -210,7 +210,7 @@ module _ (m : ℕ) (c : InlineContext) (tall width y : ℤ) (w : Within m y) (fl
       by true = w
       by false = or_within (fold (with_float (stands_at c floats tall width) y) None floats) (fold_within (stands_at c floats tall width) None floats tt on)
 
--- ---- a line takes stretches
+-- ---- a line takes segments
 
 -- with these pieces still to come
 pub record LoadFits (g : Ground) (high : ℕ) (f : Load) (pieces : List Measured) : Type 0 where

@@ -3,11 +3,11 @@ use Rattle.std.specs.Int.{int_max}
 use Rattle.std.specs.List.{list_any}
 use Rattle.layout_semantics.specs.Floats.{FloatBox}
 use Rattle.layout_semantics.specs.InlineContent.{Item, float_boxes, makes_line, content}
-use Rattle.layout_semantics.specs.Stretches.{stretches, what_stays}
+use Rattle.layout_semantics.specs.Segments.{segments, what_stays}
 use Rattle.layout_semantics.specs.Fragments.{set_out}
 use Rattle.layout_semantics.specs.LineHeights.{InlineContext, LineExtent, line_extent, height_of_extent, extended_boxes, tallest}
-use Rattle.layout_semantics.specs.LineFilling.{Met, Line, place_each, line_top, before_line, item_width, width_held, first_items, met_after, stretches_held}
-use Rattle.layout_semantics.specs.Lines.{SoFar, LaidLines, LineList, before_all, next_line, laid_line, laid_no_line, laid_stretches, laid_next, followed, go_on, lines_to, lines_in}
+use Rattle.layout_semantics.specs.LineFilling.{Met, Line, place_each, line_top, before_line, item_width, width_held, first_items, met_after, segments_held}
+use Rattle.layout_semantics.specs.Lines.{SoFar, LaidLines, LineList, before_all, next_line, laid_line, laid_no_line, laid_segments, laid_next, followed, go_on, lines_to, lines_in}
 use Rattle.lay_line.specs.steps.Held.{nothing_held, with_items}
 use Rattle.lay_line.specs.steps.Filling.{Filled, first_filled, filled}
 use Rattle.lay_line.specs.steps.Laying.{tallest_of, left_of, line_from, laid, laid_empty, line_closed, line_step, laid_to, lines_by_steps}
@@ -19,13 +19,13 @@ use Rattle.lay_line.proofs.FoundTops.{top-same}
 use Rattle.lay_line.proofs.Widths.{width-same}
 use Rattle.lay_line.proofs.Reaching.{extent-same}
 use Rattle.lay_line.proofs.Fills.{state, line-filled}
-use Rattle.lay_line.proofs.Cuts.{stretches-are}
+use Rattle.lay_line.proofs.Cuts.{segments-are}
 
 module _ (c : InlineContext) (now : SoFar) (line : Line) where
   abbrev with_rest : ℕ → LaidLines → LaidLines × List (List Item)
   with_rest n s = (s, drop n line.parts)
 
-  laid-same : (n : ℕ) → line_closed c now line (state c line now.opened n) line.parts ≡ with_rest n (laid_stretches c now line n)
+  laid-same : (n : ℕ) → line_closed c now line (state c line now.opened n) line.parts ≡ with_rest n (laid_segments c now line n)
   laid-same n = by (list_any (makes_line c.tree) (first_items line n))
     where
       items : List Item
@@ -70,7 +70,7 @@ step-same c tall now first rest =
     let line = next_line c tall now first parts in
     ap (λ l. line_closed c now l (filled c l (first_filled c l now.opened first held) rest) parts) (line-same c tall now first parts held.width (width-same c first))
     ∙ (ap (λ f. line_closed c now line f parts) (line-filled c line now.opened first rest refl)
-    ∙ laid-same c now line (stretches_held c line))
+    ∙ laid-same c now line (segments_held c line))
 
 -- and all lines are the lines
 pub lines-same : (k : ℕ) (c : InlineContext) (tall : ℤ) (now : SoFar) (parts : List (List Item)) → laid_to k c tall now parts ≡ lines_to k c tall now parts
@@ -90,8 +90,8 @@ tallest-same c = ap (λ e. int_max (pos 1) (height_of_extent e)) (sym (extent-sa
 pub lines-are : (c : InlineContext) (y least : ℤ) (floats : List FloatBox) → lines_by_steps c y least floats ≡ lines_in c y least floats
 lines-are c y least floats =
     let items = content c.tree c.container in
-    let parts = stretches c.tree items in
-    ap (λ (p : List (List Item)). listed (laid_to (length p) c (tallest_of c items) (before_all y least floats) p)) (sym (stretches-are c.tree items))
+    let parts = segments c.tree items in
+    ap (λ (p : List (List Item)). listed (laid_to (length p) c (tallest_of c items) (before_all y least floats) p)) (sym (segments-are c.tree items))
     ∙ (ap (λ tall. listed (laid_to (length parts) c tall (before_all y least floats) parts)) (tallest-same c)
     ∙ ap listed (lines-same (length parts) c (tallest c) (before_all y least floats) parts))
   where

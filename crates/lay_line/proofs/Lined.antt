@@ -5,12 +5,12 @@ use Rattle.std.specs.Int.{int_max}
 use Rattle.std.proofs.lemmas.List.{length-map, length-drop}
 use Rattle.layout_semantics.specs.Floats.{FloatBox}
 use Rattle.layout_semantics.specs.InlineContent.{Item, float_boxes, content}
-use Rattle.layout_semantics.specs.Stretches.{may_part}
+use Rattle.layout_semantics.specs.Segments.{may_part}
 use Rattle.layout_semantics.specs.LineHeights.{InlineContext, LineExtent, height_of_extent, strut}
 use Rattle.layout_semantics.specs.LineFilling.{Met, Line, meet, place_each, line_spot, with_spot, with_waiting, none_waits, leaves_room, before_line, from_line_on, item_width, first_items}
 use Rattle.layout_semantics.specs.Fragments.{ItemPlace, float_entries}
 use Rattle.layout_semantics.specs.Lines.{SoFar, LaidLines, LineList, before_all, followed, lines_in}
-use Rattle.lay_line.specs.steps.Filling.{Filled, with_stretch, first_filled, takes, past, filled, extent_at_start}
+use Rattle.lay_line.specs.steps.Filling.{Filled, with_segment, first_filled, takes, past, filled, extent_at_start}
 use Rattle.lay_line.specs.steps.Held.{Held, nothing_held, with_items}
 use Rattle.lay_line.specs.steps.Laying.{tallest_of, left_of, line_from, line_added, laid, laid_empty, line_step, laid_to}
 use Rattle.lay_line.specs.steps.Loading.{Load, bare, ahead, reaching_boxes, loaded, loading, tallest_by}
@@ -73,13 +73,13 @@ filled-grows c line f (part ∷ parts) = by (takes c line f more) (filled-grows 
     more = with_items (item_width c) f.held part
 
     next : Filled
-    next = with_stretch c line f part (float_boxes part) more
+    next = with_segment c line f part (float_boxes part) more
 
     by : (b : Bool) → Grows next.met.floats (filled c line next parts).met.floats → Grows f.met.floats (past b f (λ n. filled c line n parts) next).met.floats
     by true again = grows-then f.met.floats next.met.floats (filled c line next parts).met.floats (met-grows c line more.width f.met (float_boxes part)) again
     by false again = grows-none f.met.floats
 
--- ---- stretches only get fewer
+-- ---- segments only get fewer
 
 count-grows : (c : InlineContext) (line : Line) (f : Filled) (parts : List (List Item)) → f.count ≤ (filled c line f parts).count
 count-grows c line f [] = omega arith
@@ -89,7 +89,7 @@ count-grows c line f (part ∷ parts) = by (takes c line f more) (count-grows c 
     more = with_items (item_width c) f.held part
 
     next : Filled
-    next = with_stretch c line f part (float_boxes part) more
+    next = with_segment c line f part (float_boxes part) more
 
     by : (b : Bool) → next.count ≤ (filled c line next parts).count → f.count ≤ (past b f (λ n. filled c line n parts) next).count
     by true again = omega arith

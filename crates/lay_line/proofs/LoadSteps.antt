@@ -1,4 +1,4 @@
--- How much a line holds, one stretch further on.
+-- How much a line holds, one segment further on.
 use Rattle.std.proofs.Common.{◌≡◌, ℕ, true, false, cond, List, [], ◌∷◌, map, refl, sym, ap, ◌∙◌}
 use Rattle.std.specs.Prelude.{ℤ}
 use Rattle.viz_calc.specs.World.{Reading}
@@ -7,7 +7,7 @@ use Rattle.layout_semantics.specs.LineHeights.{InlineContext}
 use Rattle.lay_line.specs.Items.{item_of, bare_of}
 use Rattle.lay_line.specs.Readings.{pieces_at, parts_at}
 use Rattle.lay_line.specs.declared.held.Piece.{Piece}
-use Rattle.lay_line.specs.declared.stretches.Stretches.{Stretches}
+use Rattle.lay_line.specs.declared.segments.Segments.{Segments}
 use Rattle.lay_line.specs.steps.Held.{Held}
 use Rattle.lay_line.specs.steps.Loading.{Load, bare, loaded, takes_more, loading, parts_of}
 use Rattle.lay_line.specs.steps.Measured.{Measured, held_with}
@@ -17,7 +17,7 @@ pub bare-same : {N : Type 0} (at : N → Reading → ℤ) (e : Reading) (ps : Li
 bare-same at e [] = refl
 bare-same at e (p ∷ ps) = ap (λ l. item_of p.item ∷ l) (bare-same at e ps)
 
-pub parts-same : {N : Type 0} (at : N → Reading → ℤ) (e : Reading) (s : Stretches N) (parts : List (List (Piece N))) → parts_of s.pieces.now s.marks.now ≡ parts → parts_at at s e ≡ map (λ p. pieces_at at p e) parts
+pub parts-same : {N : Type 0} (at : N → Reading → ℤ) (e : Reading) (s : Segments N) (parts : List (List (Piece N))) → parts_of s.pieces.now s.marks.now ≡ parts → parts_at at s e ≡ map (λ p. pieces_at at p e) parts
 parts-same at e s parts is = ap (map (λ p. pieces_at at p e)) is
 
 module _ (c : InlineContext) (slot : Slot) (f : Load) where

@@ -2,7 +2,7 @@
 use Rattle.std.proofs.Common.{◌≡◌, ℕ, suc, ◌+◌, false, not, cond, List, [], ◌∷◌, take, Option, Some, None, find, refl, sym, ◌∙◌, ap, arith}
 use Rattle.std.specs.List.{prefix_len}
 use Rattle.layout_semantics.specs.InlineContent.{Item, start, finish, word, space, atomic, forced, float}
-use Rattle.layout_semantics.specs.Stretches.{is_thing, until_thing, Parting}
+use Rattle.layout_semantics.specs.Segments.{is_thing, until_thing, Parting}
 use Rattle.lay_line.specs.steps.Cutting.{break_from, one_less, is_here, last_after, parted, behind, place, left_after, cut}
 use Rattle.lay_line.specs.steps.Marks.{Run, no_run, run_after, break_until, behind_in, place_in, left_in, marks, marked_parts}
 

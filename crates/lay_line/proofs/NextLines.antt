@@ -1,4 +1,4 @@
--- The next line, from the pieces that its stretches are made of.
+-- The next line, from the pieces that its segments are made of.
 use Rattle.std.proofs.Common.{◌≡◌, ℕ, zero, suc, ◌-◌, ◌<◌, arith, ℤ, Bool, true, false, List, [], ◌∷◌, ◌++◌, map, length, take, refl, sym, ap, ◌∙◌, append_assoc}
 use Rattle.std.proofs.lemmas.List.{length-map, map-append, take-map}
 use Rattle.viz_base.specs.declared.layouts.Entry.{Entry}
@@ -8,7 +8,7 @@ use Rattle.layout_semantics.specs.LineHeights.{InlineContext}
 use Rattle.layout_semantics.specs.Lines.{SoFar, LaidLines}
 use Rattle.lay_line.specs.Readings.{piece_at, pieces_at, parts_at}
 use Rattle.lay_line.specs.declared.held.Piece.{Piece}
-use Rattle.lay_line.specs.declared.stretches.Stretches.{Stretches}
+use Rattle.lay_line.specs.declared.segments.Segments.{Segments}
 use Rattle.lay_line.specs.steps.Held.{Held, nothing_held}
 use Rattle.lay_line.specs.steps.Lining.{met_before, slot_for, first_load, ended_line, joined_parts, taken, next_in, going_on, laying}
 use Rattle.lay_line.specs.steps.Loading.{Load, loading, parted_by, parts_of}
@@ -42,14 +42,14 @@ joined-same (x ∷ xs) [] = joined-parted x false (parts_of xs []) ∙ ap (λ l.
 joined-same (x ∷ xs) (m ∷ marks) = joined-parted x m (parts_of xs marks) ∙ ap (λ l. x ∷ l) (joined-same xs marks)
 
 module _ {N : Type 0} (at : N → Reading → ℤ) (e : Reading) where
-  pub parts-read : (s : Stretches N) → parts_at at s e ≡ parts_of (pieces_at at s.pieces.now e) s.marks.now
+  pub parts-read : (s : Segments N) → parts_at at s e ≡ parts_of (pieces_at at s.pieces.now e) s.marks.now
   parts-read s = parts-mapped (λ p. piece_at at p e) s.pieces.now s.marks.now
 
-  pub joined-read : (s : Stretches N) → joined_parts (parts_at at s e) ≡ pieces_at at s.pieces.now e
+  pub joined-read : (s : Segments N) → joined_parts (parts_at at s e) ≡ pieces_at at s.pieces.now e
   joined-read s = ap joined_parts (parts-read s) ∙ joined-same (pieces_at at s.pieces.now e) s.marks.now
 
   -- what a line took of all
-  pub taken-read : (pieces first line : List (Piece N)) (rest left : Stretches N) (n : ℕ) → pieces ≡ first ++ rest.pieces.now → n ≡ length pieces - length left.pieces.now → line ≡ take n pieces
+  pub taken-read : (pieces first line : List (Piece N)) (rest left : Segments N) (n : ℕ) → pieces ≡ first ++ rest.pieces.now → n ≡ length pieces - length left.pieces.now → line ≡ take n pieces
       → pieces_at at line e ≡ taken (joined_parts (pieces_at at first e ∷ parts_at at rest e)) (joined_parts (parts_at at left e))
   taken-read pieces first line rest left n all count front =
       let f : Piece N → Measured = λ p. piece_at at p e in
@@ -62,8 +62,8 @@ module _ {N : Type 0} (at : N → Reading → ℤ) (e : Reading) where
       ∙ (ap (λ k. take k (map f pieces)) long
       ∙ sym (ap (λ l. taken l (joined_parts (parts_at at left e))) whole ∙ ap (taken (map f pieces)) (joined-read left))))
 
-  -- fewer are left behind the first stretch
-  pub shorter-read : (pieces first : List (Piece N)) (rest : Stretches N) → pieces ≡ first ++ rest.pieces.now → length rest.pieces.now < length pieces
+  -- fewer are left behind the first segment
+  pub shorter-read : (pieces first : List (Piece N)) (rest : Segments N) → pieces ≡ first ++ rest.pieces.now → length rest.pieces.now < length pieces
       → length (joined_parts (parts_at at rest e)) < length (pieces_at at first e ++ joined_parts (parts_at at rest e))
   shorter-read pieces first rest all less =
       let f : Piece N → Measured = λ p. piece_at at p e in

@@ -166,8 +166,8 @@ module _ (l r h : ℤ) where
   free_within : (m : ℕ) → Within m l → Within m r → Within m h → Within (3 * m) ((r -ℤ l) -ℤ h)
   free_within m p q w = omega (arith, ints)
 
-  pub across_small : OnLine (l ∷ r ∷ h ∷ []) → IsSmall (r -ℤ l)
-  across_small on = let p = on.0 in let q = on.1.0 in omega (arith, ints)
+  pub inline_size_small : OnLine (l ∷ r ∷ h ∷ []) → IsSmall (r -ℤ l)
+  inline_size_small on = let p = on.0 in let q = on.1.0 in omega (arith, ints)
 
   pub free_small : OnLine (l ∷ r ∷ h ∷ []) → IsSmall ((r -ℤ l) -ℤ h)
   free_small on = let p = on.0 in let q = on.1.0 in let w = on.1.1.0 in omega (arith, ints)

@@ -11,7 +11,7 @@ use Rattle.layout_semantics.specs.LineFilling.{Met, Line, fits, meet, none_waits
 use Rattle.layout_semantics.specs.Lines.{opened_after}
 use Rattle.layout_laws.specs.Standing.{may_stand}
 use Rattle.lay_line.specs.steps.Held.{Held, with_items}
-use Rattle.lay_line.specs.steps.Filling.{Filled, with_stretch, takes, past, filled, with_item_box, with_box, extent_at_start}
+use Rattle.lay_line.specs.steps.Filling.{Filled, with_segment, takes, past, filled, with_item_box, with_box, extent_at_start}
 use Rattle.lay_line.specs.steps.Loading.{Load, bare, with_reach, reaching, reaching_boxes, opened_by, has_forced, has_maker, loaded, takes_more, loading, ahead_by, ahead}
 use Rattle.lay_line.specs.steps.Measured.{Measured, measured}
 use Rattle.lay_line.specs.steps.Meeting.{Slot, placed_next, placed_all, met_next, met_all, stands_at, top_in}
@@ -74,12 +74,12 @@ maker-same : (c : InlineContext) (items : List Item) → has_maker c items ≡ l
 unfolding makes
 maker-same c items = refl
 
--- ---- one stretch
+-- ---- one segment
 
 abbrev pub load_of : Filled → Load
 load_of f = record { held = f.held; is_ended = f.is_ended; is_line = f.is_line; met = f.met; extent = f.extent; opened = f.opened }
 
-pub loaded-same : (c : InlineContext) (line : Line) (f : Filled) (part : List Item) (floats : List ℕ) (held : Held) → loaded c (slot_of line) (load_of f) part floats held ≡ load_of (with_stretch c line f part floats held)
+pub loaded-same : (c : InlineContext) (line : Line) (f : Filled) (part : List Item) (floats : List ℕ) (held : Held) → loaded c (slot_of line) (load_of f) part floats held ≡ load_of (with_segment c line f part floats held)
 unfolding loaded
 loaded-same c line f part floats held =
     ap (λ l. made l (met_all c (slot_of line) held.width f.met floats) (reaching c f.extent part) (opened_by f.opened part)) (ap (λ l. f.is_line || l) (maker-same c part))
@@ -103,13 +103,13 @@ takes-same c line f held = by f.is_ended (fits held.width (band_at f.met.floats 
     by false true = refl
     by false false = refl
 
--- ---- the stretches of a line
+-- ---- the segments of a line
 
 -- what is left behind those that it takes
 abbrev pub left_by : InlineContext → Line → Filled → List (List Item) → List (List Item)
 left_by c line f [] = []
 left_by c line f (part ∷ parts) = cond (takes c line f (with_items (item_width c) f.held part))
-    (left_by c line (with_stretch c line f part (float_boxes part) (with_items (item_width c) f.held part)) parts) (part ∷ parts)
+    (left_by c line (with_segment c line f part (float_boxes part) (with_items (item_width c) f.held part)) parts) (part ∷ parts)
 
 pub loading-same : (c : InlineContext) (line : Line) (f : Filled) (parts : List (List Item))
     → loading c (slot_of line) (load_of f) (map (measured (item_width c)) parts) ≡ (load_of (filled c line f parts), map (measured (item_width c)) (left_by c line f parts))
@@ -117,7 +117,7 @@ loading-same c line f [] = refl
 loading-same c line f (part ∷ parts) =
     let w = item_width c in
     let more = with_items w f.held part in
-    let next = with_stretch c line f part (float_boxes part) more in
+    let next = with_segment c line f part (float_boxes part) more in
     ap (λ h. step h (bare (measured w part))) (held-same w f.held part)
     ∙ (ap (step more) (bare-measured w part)
     ∙ (ap (λ b. cond b (loading c (slot_of line) (loaded c (slot_of line) (load_of f) part (float_boxes part) more) (map (measured w) parts)) (load_of f, map (measured w) (part ∷ parts))) (takes-same c line f more)
@@ -129,7 +129,7 @@ loading-same c line f (part ∷ parts) =
         (loading c (slot_of line) (loaded c (slot_of line) (load_of f) items (float_boxes items) h) (map (measured (item_width c)) parts)) (load_of f, map (measured (item_width c)) (part ∷ parts))
 
     rest : Filled
-    rest = with_stretch c line f part (float_boxes part) (with_items (item_width c) f.held part)
+    rest = with_segment c line f part (float_boxes part) (with_items (item_width c) f.held part)
 
     by : (b : Bool) → loading c (slot_of line) (load_of rest) (map (measured (item_width c)) parts) ≡ (load_of (filled c line rest parts), map (measured (item_width c)) (left_by c line rest parts))
         → cond b (loading c (slot_of line) (load_of rest) (map (measured (item_width c)) parts)) (load_of f, map (measured (item_width c)) (part ∷ parts))
@@ -142,7 +142,7 @@ left-same c line f all [] e = e
 left-same c line f all (part ∷ parts) e = by (takes c line f (with_items (item_width c) f.held part)) (left-same c line rest all parts (drop-next f.count all part parts e))
   where
     rest : Filled
-    rest = with_stretch c line f part (float_boxes part) (with_items (item_width c) f.held part)
+    rest = with_segment c line f part (float_boxes part) (with_items (item_width c) f.held part)
 
     by : (b : Bool) → drop (filled c line rest parts).count all ≡ left_by c line rest parts → drop (past b f (λ next. filled c line next parts) rest).count all ≡ cond b (left_by c line rest parts) (part ∷ parts)
     by true again = again

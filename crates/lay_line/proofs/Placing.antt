@@ -37,7 +37,7 @@ module _ (m : ℕ) (fs : List FloatBox) (edges : FloatsWithin m fs) where
   pub bottom_within : (y : ℤ) → Contains (map (λ (f : FloatBox). f.box.bottom) fs) y → Within m y
   bottom_within y i = let f = from_map (λ (f : FloatBox). f.box.bottom) fs y i in subst (Within m) f.2 (edges f.0 f.1).1.1.1.0
 
-  -- the edges of what floats leave of a stretch
+  -- the edges of what floats leave of a segment
   pub room_within : (cb : Band ℤ) (test : FloatBox → Bool) → Within m cb.left → Within m cb.right → Within m (beside (filter test fs) cb).left × Within m (beside (filter test fs) cb).right
   room_within cb test l r = (on_left (left_edge fs cb test), on_right (right_edge fs cb test))
     where

@@ -2,7 +2,7 @@
 use Rattle.std.proofs.Common.{◌≡◌, ℕ, suc, ◌+◌, ◌==◌, Bool, true, false, not, cond, ◌||◌, List, [], ◌∷◌, ◌++◌, filter, refl, sym, ◌∙◌, ap, append-nil, arith}
 use Rattle.std.specs.List.{list_any}
 use Rattle.layout_semantics.specs.InlineContent.{Item, start, finish, word, space, atomic, forced, float}
-use Rattle.layout_semantics.specs.Stretches.{is_end, ends, closed_run}
+use Rattle.layout_semantics.specs.Segments.{is_end, ends, closed_run}
 use Rattle.lay_line.specs.steps.Cutting.{Starts, first_or, without, break_from, break_in}
 use Rattle.lay_line.proofs.Lasts.{none-where, later, behind-first}
 use Rattle.lay_line.proofs.Ends.{last_end}

@@ -2,7 +2,7 @@ use Rattle.std.proofs.Common.{◌≡◌, ℤ, ◌+ℤ◌, Bool, true, false, con
 use Rattle.std.specs.Prelude.{◌||◌}
 use Rattle.std.proofs.lemmas.List.{reverse-append}
 use Rattle.layout_semantics.specs.InlineContent.{Item, start, finish, word, space, atomic, forced, float}
-use Rattle.layout_semantics.specs.Stretches.{without_leading, what_stays}
+use Rattle.layout_semantics.specs.Segments.{without_leading, what_stays}
 use Rattle.layout_semantics.specs.LineHeights.{InlineContext}
 use Rattle.layout_semantics.specs.LineFilling.{item_width}
 use Rattle.layout_semantics.specs.Fragments.{ItemPlace, set_out}

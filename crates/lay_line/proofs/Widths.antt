@@ -5,7 +5,7 @@ use Rattle.std.proofs.lemmas.List.{reverse-append}
 use Rattle.std.proofs.lemmas.List.Sums.{fold-append}
 use Rattle.layout_semantics.specs.Lengths.{total}
 use Rattle.layout_semantics.specs.InlineContent.{Item, start, finish, word, space, atomic, forced, float}
-use Rattle.layout_semantics.specs.Stretches.{without_leading}
+use Rattle.layout_semantics.specs.Segments.{without_leading}
 use Rattle.layout_semantics.specs.LineHeights.{InlineContext}
 use Rattle.layout_semantics.specs.LineFilling.{item_width, width_held, joined}
 use Rattle.lay_line.specs.steps.Staying.{is_solid}
@@ -125,7 +125,7 @@ width-same c items =
     let turned = sum-reversed (item_width c) (without_leading (reverse (without_leading items))) in
     omega (arith, ints)
 
--- and of stretches that of the passes over each of them
-pub stretches-same : (f : Held → Item → Held) (h : Held) (parts : List (List Item)) → fold (λ (s : Held) part. fold f s part) h parts ≡ fold f h (joined parts)
-stretches-same f h [] = refl
-stretches-same f h (part ∷ parts) = stretches-same f (fold f h part) parts ∙ sym (fold-append f h part (joined parts))
+-- and of segments that of the passes over each of them
+pub segments-same : (f : Held → Item → Held) (h : Held) (parts : List (List Item)) → fold (λ (s : Held) part. fold f s part) h parts ≡ fold f h (joined parts)
+segments-same f h [] = refl
+segments-same f h (part ∷ parts) = segments-same f (fold f h part) parts ∙ sym (fold-append f h part (joined parts))

@@ -3,7 +3,7 @@ use Rattle.std.specs.Prelude.{List, map}
 use Rattle.std.specs.Str.{chars}
 use Rattle.viz_base.specs.declared.trees.BoxTree.{BoxTree}
 use Rattle.layout_semantics.specs.InlineContent as content
-use Rattle.layout_semantics.specs.Stretches as stretches
+use Rattle.layout_semantics.specs.Segments as segments
 use Rattle.lay_line.specs.declared.breaks.Parting.{Parting}
 use Rattle.lay_line.specs.declared.breaks.Run.{Run}
 use Rattle.lay_line.specs.steps.Marks as steps
@@ -25,9 +25,9 @@ abbrev pub items_of : List Item → List content.Item
 items_of items = map item_of items
 
 -- between which things content is parted
-abbrev pub parting_of : BoxTree → Parting → stretches.Parting
-parting_of tree of_parting.Lines = stretches.may_part tree
-parting_of tree of_parting.Never = stretches.never
+abbrev pub parting_of : BoxTree → Parting → segments.Parting
+parting_of tree of_parting.Lines = segments.may_part tree
+parting_of tree of_parting.Never = segments.never
 
 -- what is known of a run
 abbrev pub run_of : Run → steps.Run

@@ -27,8 +27,8 @@ abbrev pub held_size : Held → ℕ
 held_size h = unsigned_abs h.width + unsigned_abs h.spaces
 
 -- what a line holds, with more pieces
-abbrev pub HoldFits : Held → List Measured → Type 0
-HoldFits h ms = held_size h + weight ms ≤ 2 ^ 100
+abbrev pub ClampFits : Held → List Measured → Type 0
+ClampFits h ms = held_size h + weight ms ≤ 2 ^ 100
 
 -- where the next item stands, with more pieces
 abbrev pub StandFits : ℤ → List Measured → Type 0
@@ -67,11 +67,11 @@ pub record PlacesFit (c : InlineContext) (floats : List FloatBox) (least y : ℤ
 abbrev pub RoomFits : InlineContext → List FloatBox → ℤ → ℤ → Type 0
 RoomFits c floats y tall = AreHalf floats (c.cb.left ∷ c.cb.right ∷ y ∷ tall ∷ [])
 
--- ---- a line takes stretches
+-- ---- a line takes segments
 
 -- with these pieces still to come: what it holds, the floats that it meets, and how far it reaches
 pub record FillFits (c : InlineContext) (slot : Slot) (load : Load) (pieces : List Measured) : Type 0 where
-  pub held : HoldFits load.held pieces
+  pub held : ClampFits load.held pieces
   pub places : PlacesFit c load.met.floats slot.least slot.top (float_boxes (bare pieces))
   pub tall : IsHalf slot.tall
   pub reach : BoxesReach c

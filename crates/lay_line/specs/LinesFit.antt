@@ -18,7 +18,7 @@ use Rattle.lay_line.specs.steps.Words.{width_in, reach_in, strut_in}
 
 -- ---- a line begins
 
--- with its first stretch, whose floats are met
+-- with its first segment, whose floats are met
 abbrev pub FirstFits : InlineContext → Slot → Met → List Measured → Type 0
 FirstFits c slot met first =
     InlineFits c.tree c.world (node_of c.tree c.container)

@@ -18,7 +18,7 @@ use Rattle.lay_line.specs.declared.held.Piece.{Piece}
 use Rattle.lay_line.specs.declared.line_content.Content.{Content}
 use Rattle.lay_line.specs.declared.lining.Frame.{Frame}
 use Rattle.lay_line.specs.declared.lining.Laid.{Laid}
-use Rattle.lay_line.specs.declared.stretches.Cut.{Cut}
+use Rattle.lay_line.specs.declared.segments.Cut.{Cut}
 use Rattle.lay_line.specs.steps.Lining.{places_of, next_in}
 use Rattle.lay_line.specs.steps.Measured.{Measured}
 use Rattle.lay_line.specs.steps.Meeting.{placed_all}
@@ -63,7 +63,7 @@ begun_at at b floats e =
 abbrev pub start_at : {N : Type 0} → (N → Reading → ℤ) → Begun N → Reading → Start
 start_at at b e = record { y = at b.y e; least = at b.least e; floats = b.floats }
 
--- the next line, and the stretches behind it
+-- the next line, and the segments behind it
 abbrev pub next_of : {N : Type 0} → (N → Reading → ℤ) → Frame N → SoFar N → Cut N → Reading → lines.LaidLines
     × List (List Measured)
 next_of at f now cut e =

@@ -21,7 +21,7 @@ use Rattle.lay_line.specs.declared.meeting.Met.{Met}
 use Rattle.lay_line.specs.declared.meeting.Slot.{Slot}
 use Rattle.lay_line.specs.declared.places.ItemPlace.{ItemPlace}
 use Rattle.lay_line.specs.declared.places.Row.{Row}
-use Rattle.lay_line.specs.declared.stretches.Stretches.{Stretches}
+use Rattle.lay_line.specs.declared.segments.Segments.{Segments}
 use Rattle.lay_line.specs.steps.Held as steps
 use Rattle.lay_line.specs.steps.Measured as measured
 use Rattle.lay_line.specs.steps.Measured.{Measured}
@@ -76,7 +76,7 @@ load_at at l e = record {
   opened = l.opened.items;
 }
 
-abbrev pub parts_at : {N : Type 0} → (N → Reading → ℤ) → Stretches N → Reading → List (List Measured)
+abbrev pub parts_at : {N : Type 0} → (N → Reading → ℤ) → Segments N → Reading → List (List Measured)
 parts_at at s e = map (λ part. pieces_at at part e) (loading.parts_of s.pieces.now s.marks.now)
 
 abbrev pub loaded_at : {N : Type 0} → (N → Reading → ℤ) → Loaded N → Reading → loading.Load × List (List Measured)

@@ -1,6 +1,6 @@
 //! Where lines may break (CSS 2.1, 9.4.2, 16.6).
 ghost use Rattle.std.specs.Prelude.{◌≡◌, IfOk, None, option_map, find};
-ghost use Rattle.layout_semantics.specs.Stretches.{is_thing as is_thing_of, wraps as wraps_at, is_wrapping_space as at_space, is_wrapping_atomic as at_atomic, is_behind_atomic as behind_atomic, may_part as may_part_by};
+ghost use Rattle.layout_semantics.specs.Segments.{is_thing as is_thing_of, wraps as wraps_at, is_wrapping_space as at_space, is_wrapping_atomic as at_atomic, is_behind_atomic as behind_atomic, may_part as may_part_by};
 ghost use Rattle.lay_line.specs.Items.{item_of, items_of, parting_of, run_of};
 ghost use Rattle.lay_line.specs.steps.Cutting.{leading_ends as ends_before, first_or as place_or, one_less as less_by_one, is_here as is_at, last_after as last_with, without as without_starts};
 ghost use Rattle.lay_line.specs.steps.Marks.{no_run, run_after, break_until as place_until, behind_in, place_in, left_in, marks as marks_of};
@@ -19,7 +19,7 @@ pub enum Parting {
     Never,
 }
 
-#[tactic(auto, unfolding(layout_semantics::specs::Stretches::wraps))]
+#[tactic(auto, unfolding(layout_semantics::specs::Segments::wraps))]
 /// Whether `white-space` of a box's node lets lines break (CSS 2.1, 16.6).
 fn wraps(tree: &BoxTree, at: u32) -> bool
     ensures { result ≡ wraps_at tree.now at }

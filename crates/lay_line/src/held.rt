@@ -7,7 +7,7 @@ ghost use Rattle.lay_line.specs.Readings.{held_at, pieces_at};
 ghost use Rattle.lay_line.specs.steps.Held.{nothing_held, with_solid as solid_on, with_space as space_on, with_other as other_on, with_item as item_on};
 ghost use Rattle.lay_line.specs.Ways.{solid_way, space_way, other_way, item_way};
 ghost use Rattle.lay_line.specs.steps.Measured.{held_with};
-ghost use Rattle.lay_line.specs.Limits.{HoldFits};
+ghost use Rattle.lay_line.specs.Limits.{ClampFits};
 
 use crate::items::Item;
 use viz_calc::Steady;
@@ -118,7 +118,7 @@ pub fn with_pieces<S: Steady>(
 ) -> Held<S::Num>
     ensures { Lays S.run calc.old calc.new (held_at S.at result)
         (λ e. held_with (held_at S.at start e) (pieces_at S.at pieces.now e))
-        (λ e. HoldFits (held_at S.at start e) (pieces_at S.at pieces.now e)) }
+        (λ e. ClampFits (held_at S.at start e) (pieces_at S.at pieces.now e)) }
 {
     let mut held = start;
     for piece in pieces {

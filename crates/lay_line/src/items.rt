@@ -1,6 +1,6 @@
 //! Inline content as a list (CSS 2.1, 9.2.2, 9.4.2).
 ghost use Rattle.std.specs.Prelude.{◌≡◌};
-ghost use Rattle.layout_semantics.specs.Stretches.{is_thing, is_end, is_space, is_forced};
+ghost use Rattle.layout_semantics.specs.Segments.{is_thing, is_end, is_space, is_forced};
 ghost use Rattle.lay_line.specs.Items.{item_of};
 ghost use Rattle.lay_line.specs.steps.Staying.{is_solid as is_solid_of};
 

@@ -5,7 +5,7 @@ ghost use Rattle.layout_semantics.specs.Floats.{FloatBox};
 ghost use Rattle.layout_semantics.specs.InlineContent.{Item};
 ghost use Rattle.layout_semantics.specs.LineHeights.{InlineContext};
 ghost use Rattle.layout_semantics.specs.Lines.{before_all, lines_in};
-ghost use Rattle.layout_semantics.specs.Stretches.{stretches, pieces, may_part, never, what_stays};
+ghost use Rattle.layout_semantics.specs.Segments.{segments, pieces, may_part, never, what_stays};
 ghost use Rattle.layout_semantics.specs.Fragments.{set_out};
 ghost use Rattle.lay_line.specs.steps.Cutting.{cut};
 ghost use Rattle.lay_line.specs.steps.Held.{nothing_held};
@@ -31,8 +31,8 @@ pub fn pieces_of_one_pass_are_the_pieces()
 
 /// The marks that the code makes part the content where the definition does (CSS 2.1, 16.6).
 pub fn marks_make_the_parts()
-    ensures stretches { (tree : BoxTree) (items : List Item)
-        → marked_parts items (marks (may_part tree) None None items) ≡ stretches tree items }
+    ensures segments { (tree : BoxTree) (items : List Item)
+        → marked_parts items (marks (may_part tree) None None items) ≡ segments tree items }
     ensures pieces { (items : List Item)
         → marked_parts items (marks never None None items) ≡ pieces items }
 {}

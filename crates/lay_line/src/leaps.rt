@@ -1,4 +1,4 @@
-//! How many stretches a line is asked to take at once (CSS 2.1, 9.4.2).
+//! How many segments a line is asked to take at once (CSS 2.1, 9.4.2).
 ghost use Rattle.std.specs.Prelude.{◌≡◌, ◌<◌, [], IsTrue, IfSome, MatchOption, length};
 ghost use Rattle.std.specs.List.{list_all};
 ghost use Rattle.lay_line.specs.Items.{item_of, bare_of};
@@ -7,7 +7,7 @@ ghost use Rattle.lay_line.specs.steps.Loading.{parts_of, IsFirst};
 
 use crate::held::Piece;
 use crate::items::Item;
-use crate::stretches::{Stretches, cut_first};
+use crate::segments::{Segments, cut_first};
 
 /// How much text the lines of a container took so far, in bytes: from it a line guesses how much it takes.
 ///
@@ -120,25 +120,25 @@ fn is_plain<N>(pieces: &[Piece<N>]) -> bool
     is_begun(pieces) && are_text(pieces)
 }
 
-/// Stretches that a line may take at once.
+/// Segments that a line may take at once.
 #[derive(Drop)]
 pub struct Leap<'p, 'a, N> {
     /// All their pieces.
     pub first: &'p [Piece<'a, N>],
-    pub rest: Stretches<'p, 'a, N>,
+    pub rest: Segments<'p, 'a, N>,
     /// How many they are.
     pub count: usize,
     /// How much text they are.
     pub size: u64,
 }
 
-/// The first stretch alone.
-fn alone<'p, 'a, N>(stretches: &Stretches<'p, 'a, N>) -> Option<Leap<'p, 'a, N>>
-    ensures { MatchOption result (parts_of stretches.now.pieces.now stretches.now.marks.now ≡ [])
-        (λ l. IsFirst stretches.now.pieces.now stretches.now.marks.now l.first.now l.rest.pieces.now l.rest.marks.now
+/// The first segment alone.
+fn alone<'p, 'a, N>(segments: &Segments<'p, 'a, N>) -> Option<Leap<'p, 'a, N>>
+    ensures { MatchOption result (parts_of segments.now.pieces.now segments.now.marks.now ≡ [])
+        (λ l. IsFirst segments.now.pieces.now segments.now.marks.now l.first.now l.rest.pieces.now l.rest.marks.now
         × (l.count ≡ 1)) }
 {
-    let cut = cut_first(stretches)?;
+    let cut = cut_first(segments)?;
     Some(Leap {
         first: cut.first,
         rest: cut.rest,
@@ -147,9 +147,9 @@ fn alone<'p, 'a, N>(stretches: &Stretches<'p, 'a, N>) -> Option<Leap<'p, 'a, N>>
     })
 }
 
-/// The stretch behind some that a line takes with them, if it is of words and spaces and no more than so much text.
+/// The segment behind some that a line takes with them, if it is of words and spaces and no more than so much text.
 fn further<'p, 'a, N>(
-    rest: &Stretches<'p, 'a, N>,
+    rest: &Segments<'p, 'a, N>,
     room: u64,
     goes_on: bool,
 ) -> Option<Leap<'p, 'a, N>>
@@ -162,18 +162,18 @@ fn further<'p, 'a, N>(
     }
 }
 
-/// The first stretch, or more of them where they are words and spaces: at most so many, and no more than a line is
+/// The first segment, or more of them where they are words and spaces: at most so many, and no more than a line is
 /// guessed to take.
 pub(crate) fn leap_on<'p, 'a, N>(
     guess: Guess,
-    stretches: &Stretches<'p, 'a, N>,
+    segments: &Segments<'p, 'a, N>,
     most: usize,
 ) -> Option<Leap<'p, 'a, N>>
-    ensures { MatchOption result (parts_of stretches.now.pieces.now stretches.now.marks.now ≡ [])
-        (λ l. IsLeap (λ ps. is_plain_of (bare_of ps)) stretches.now.pieces.now stretches.now.marks.now l.first.now
+    ensures { MatchOption result (parts_of segments.now.pieces.now segments.now.marks.now ≡ [])
+        (λ l. IsLeap (λ ps. is_plain_of (bare_of ps)) segments.now.pieces.now segments.now.marks.now l.first.now
         l.rest.pieces.now l.rest.marks.now l.count most) }
 {
-    let one = alone(stretches)?;
+    let one = alone(segments)?;
     if !is_plain(one.first) {
         return Some(one);
     }
@@ -186,8 +186,8 @@ pub(crate) fn leap_on<'p, 'a, N>(
         count += 1;
         size = size.saturating_add(next.size);
     }
-    let taken = stretches.pieces.len().saturating_sub(rest.pieces.len());
-    let (first, _) = stretches.pieces.split_at(taken);
+    let taken = segments.pieces.len().saturating_sub(rest.pieces.len());
+    let (first, _) = segments.pieces.split_at(taken);
     Some(Leap {
         first,
         rest,

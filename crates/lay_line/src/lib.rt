@@ -24,9 +24,9 @@ pub mod loads;
 pub mod meeting;
 pub mod openings;
 pub mod places;
+pub mod segments;
 pub mod shifts;
 pub mod sizes;
-pub mod stretches;
 pub mod tops;
 pub mod trees;
 

@@ -37,9 +37,9 @@ fn spare<S: Steady>(calc: &mut S, room: &Band<S::Num>, held: &S::Num) -> S::Num
         (λ e. int_max (pos 0) (width_of (band_at S.at room.now e) -ℤ S.at held.now e))
         (λ e. OnLine (S.at room.now.left e ∷ S.at room.now.right e ∷ S.at held.now e ∷ [])) }
 {
-    let across = band_width(calc, room);
-    if calc.le(held, &across) {
-        calc.sub(&across, held)
+    let inline_size = band_width(calc, room);
+    if calc.le(held, &inline_size) {
+        calc.sub(&inline_size, held)
     } else {
         zero(calc)
     }

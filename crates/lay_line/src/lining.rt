@@ -6,7 +6,7 @@ ghost use Rattle.viz_calc.specs.World.{Reading};
 ghost use Rattle.viz_calc.specs.Run.{Goes, BlamesButMem, LaysButMem};
 ghost use Rattle.layout_semantics.specs.InlineContent.{content as content_of};
 ghost use Rattle.layout_semantics.specs.Lines.{lines_in};
-ghost use Rattle.layout_semantics.specs.Stretches.{may_part};
+ghost use Rattle.layout_semantics.specs.Segments.{may_part};
 ghost use Rattle.lay_float.specs.Readings.{floats_at};
 ghost use Rattle.lay_line.specs.Contexts.{context_at};
 ghost use Rattle.lay_line.specs.Items.{items_of};
@@ -28,8 +28,8 @@ use crate::leaps::Guess;
 use crate::loads::{fill, tallest};
 use crate::meeting::Slot;
 use crate::openings::{Opening, first_load, meet_before};
+use crate::segments::{Cut, Segments, cut_first};
 use crate::sizes::measure;
-use crate::stretches::{Cut, Stretches, cut_first};
 use crate::tops::{Wanted, line_top};
 use lay_float::Floats;
 use std::alloc::Global;
@@ -43,11 +43,11 @@ struct Frame<'w, 'a, N> {
     tall: N,
 }
 
-/// Where the next line begins, and the stretches that are left.
+/// Where the next line begins, and the segments that are left.
 #[derive(Drop)]
 struct Next<'p, 'a, N> {
     now: SoFar<N>,
-    rest: Stretches<'p, 'a, N>,
+    rest: Segments<'p, 'a, N>,
 }
 
 /// Adds the next line.
@@ -86,7 +86,7 @@ fn next_line<'p, 'a, S: Steady>(
     };
     let container = frame.container;
     let start = nothing(calc);
-    // The first stretch stands on the line in any case; how wide it is decides where the line's top is.
+    // The first segment stands on the line in any case; how wide it is decides where the line's top is.
     let held = with_pieces(calc, start, first);
     // Floats before anything else on the line are placed from where it begins, before its top is looked for.
     let met = meet_before(alloc, calc, container, &begun, floats, first);
@@ -127,37 +127,37 @@ fn next_line<'p, 'a, S: Steady>(
     }
 }
 
-/// Adds the lines of stretches, one after another.
+/// Adds the lines of segments, one after another.
 fn lay<S: Steady>(
     alloc: Global,
     calc: &mut S,
     frame: &Frame<'_, '_, S::Num>,
     start: SoFar<S::Num>,
-    stretches: Stretches<'_, '_, S::Num>,
+    segments: Segments<'_, '_, S::Num>,
     entries: &mut List<Entry<S::Num>>,
 ) -> SoFar<S::Num>
     requires { WhereOpen (S.run calc.old).is_open
-        (λ e. AreWide (pieces_at S.at stretches.pieces.now e)) }
+        (λ e. AreWide (pieces_at S.at segments.pieces.now e)) }
     ensures goes { Goes (S.run calc.old) (S.run calc.new) }
     ensures after { WhereOpen (S.run calc.new).is_open
         (λ e. so_far_at S.at result e ≡
-        (laying (length stretches.entry.pieces.now) (context_at S.at frame.now.container.now e)
-        (S.at frame.now.tall e) (so_far_at S.at start e) (parts_at S.at stretches.entry e)).after) }
+        (laying (length segments.entry.pieces.now) (context_at S.at frame.now.container.now e)
+        (S.at frame.now.tall e) (so_far_at S.at start e) (parts_at S.at segments.entry e)).after) }
     ensures added { WhereOpen (S.run calc.new).is_open
         (λ e. entries_at S.at entries.new e
         ≡ entries_at S.at entries.old e
-        ++ (laying (length stretches.entry.pieces.now) (context_at S.at frame.now.container.now e)
+        ++ (laying (length segments.entry.pieces.now) (context_at S.at frame.now.container.now e)
         (S.at frame.now.tall e) (so_far_at S.at start e)
-        (parts_at S.at stretches.entry e)).entries) }
+        (parts_at S.at segments.entry e)).entries) }
     ensures cause { BlamesButMem (S.run calc.old) (S.run calc.new)
         (WhereOpen (S.run calc.old).is_open
         (λ e. RestFits (context_at S.at frame.now.container.now e) (S.at frame.now.tall e)
-        (so_far_at S.at start e) (pieces_at S.at stretches.entry.pieces.now e))) }
+        (so_far_at S.at start e) (pieces_at S.at segments.entry.pieces.now e))) }
 {
     let mut now = start;
-    let count = stretches.pieces.len();
-    let mut rest = stretches;
-    // Each line takes at least one stretch, and a stretch at least one piece.
+    let count = segments.pieces.len();
+    let mut rest = segments;
+    // Each line takes at least one segment, and a segment at least one piece.
     for line in 0..count {
         match cut_first(&rest) {
             Some(cut) => {
@@ -189,7 +189,7 @@ fn items_in<'t, S: Steady>(alloc: Global, calc: &mut S, tree: &'t BoxTree, at: u
     }
 }
 
-/// Where stretches end.
+/// Where segments end.
 fn marks_in<S: Steady>(alloc: Global, calc: &mut S, tree: &BoxTree, items: &[Item]) -> Vec<bool>
     ensures { LaysButMem S.run calc.old calc.new (λ e. result.items)
         (λ e. marks_of (may_part tree.now) None None (items_of items.now)) (λ e. ⊤) }
@@ -246,12 +246,12 @@ pub fn lines<S: Steady>(
         },
     };
     let frame = Frame { container, tall };
-    let stretches = Stretches {
+    let segments = Segments {
         pieces: pieces.as_slice(),
         marks: marks.as_slice(),
     };
     let mut entries = List::new(alloc);
-    let end = lay(alloc, calc, &frame, start, stretches, &mut entries);
+    let end = lay(alloc, calc, &frame, start, segments, &mut entries);
     Laid {
         lines: Lines {
             entries,

@@ -1,11 +1,11 @@
-//! How much a line holds, stretch by stretch (CSS 2.1, 9.4.2).
+//! How much a line holds, segment by segment (CSS 2.1, 9.4.2).
 ghost use Rattle.std.specs.Prelude.{◌≡◌, ◌≤◌, not, ◌==◌, pos, length, filter, IsTrue, IfOk, ⊤, ◌∷◌, []};
 ghost use Rattle.std.specs.List.{list_any};
 ghost use Rattle.viz_calc.specs.World.{Reading};
 ghost use Rattle.viz_calc.specs.Run.{Lays, LaysButMem};
 ghost use Rattle.layout_semantics.specs.LineHeights.{height_of_extent};
 ghost use Rattle.layout_semantics.specs.Lines.{opened_after};
-ghost use Rattle.layout_semantics.specs.Stretches.{is_forced as is_forced_of};
+ghost use Rattle.layout_semantics.specs.Segments.{is_forced as is_forced_of};
 ghost use Rattle.lay_line.specs.Contexts.{context_at};
 ghost use Rattle.lay_line.specs.Items.{item_of, bare_of};
 ghost use Rattle.lay_line.specs.Readings.{held_at, line_extent_at, load_at, loaded_at, pieces_at, parts_at, slot_at};
@@ -26,8 +26,8 @@ use crate::held::{Held, Piece, with_pieces};
 use crate::items::{Item, is_forced};
 use crate::leaps::{Guess, leap_on};
 use crate::meeting::{Met, Slot, fits, floats_of, meet_each};
+use crate::segments::Segments;
 use crate::shifts::{reach, strut};
-use crate::stretches::Stretches;
 use lay_width::limits::greater;
 use std::alloc::{AllocError, Global};
 use viz_base::BoxTree;
@@ -262,7 +262,7 @@ pub struct Load<N> {
     pub guess: Guess,
 }
 
-/// A stretch that a line takes.
+/// A segment that a line takes.
 #[derive(Drop)]
 pub struct Taken<'p, 'a, N> {
     pub part: &'p [Piece<'a, N>],
@@ -273,8 +273,8 @@ pub struct Taken<'p, 'a, N> {
 }
 
 #[tactic(auto, unfolding(crate::specs::Contexts::context_at, crate::specs::steps::Loading::loaded))]
-/// With one stretch more.
-pub fn with_stretch<S: Steady>(
+/// With one segment more.
+pub fn with_segment<S: Steady>(
     alloc: Global,
     calc: &mut S,
     container: &Container<'_, S::Num>,
@@ -327,7 +327,7 @@ fn copy_held<S: Steady>(calc: &mut S, held: &Held<S::Num>) -> Held<S::Num>
 }
 
 #[tactic(auto, unfolding(crate::specs::steps::Loading::takes_more))]
-/// Whether a later stretch stands on the line, which then holds so much.
+/// Whether a later segment stands on the line, which then holds so much.
 fn takes_more<S: Steady>(
     calc: &mut S,
     container: &Container<'_, S::Num>,
@@ -353,14 +353,14 @@ fn takes_more<S: Steady>(
         )
 }
 
-/// A line that is full, and the stretches that are left.
+/// A line that is full, and the segments that are left.
 #[derive(Drop)]
 pub struct Loaded<'p, 'a, N> {
     pub load: Load<N>,
-    pub rest: Stretches<'p, 'a, N>,
+    pub rest: Segments<'p, 'a, N>,
 }
 
-/// Takes stretches as long as they fit. Where several are words and spaces they are taken at once if the last of them
+/// Takes segments as long as they fit. Where several are words and spaces they are taken at once if the last of them
 /// fits: no word and no space is narrower than 0.
 pub(crate) fn fill<'p, 'a, S: Steady>(
     alloc: Global,
@@ -368,22 +368,22 @@ pub(crate) fn fill<'p, 'a, S: Steady>(
     container: &Container<'_, S::Num>,
     slot: &Slot<S::Num>,
     start: Load<S::Num>,
-    stretches: Stretches<'p, 'a, S::Num>,
+    segments: Segments<'p, 'a, S::Num>,
 ) -> Loaded<'p, 'a, S::Num>
     requires { WhereOpen (S.run calc.old).is_open
-        (λ e. AreWide (pieces_at S.at stretches.pieces.now e)) }
+        (λ e. AreWide (pieces_at S.at segments.pieces.now e)) }
     ensures { LaysButMem S.run calc.old calc.new (loaded_at S.at result)
         (λ e. loading (context_at S.at container.now e) (slot_at S.at slot.now e)
-        (load_at S.at start e) (parts_at S.at stretches.entry e))
+        (load_at S.at start e) (parts_at S.at segments.entry e))
         (λ e. FillFits (context_at S.at container.now e) (slot_at S.at slot.now e)
-        (load_at S.at start e) (pieces_at S.at stretches.entry.pieces.now e)) }
+        (load_at S.at start e) (pieces_at S.at segments.entry.pieces.now e)) }
 {
     let mut load = start;
-    let mut rest = stretches;
-    // How many stretches are taken at once: fewer after each refusal.
+    let mut rest = segments;
+    // How many segments are taken at once: fewer after each refusal.
     let mut most = rest.pieces.len();
     while let Some(next) = leap_on(load.guess, &rest, most) {
-        // A copy: where the stretches don't fit the line keeps what it held.
+        // A copy: where the segments don't fit the line keeps what it held.
         let before = copy_held(calc, &load.held);
         let held = with_pieces(calc, before, next.first);
         if !takes_more(calc, container, slot, &load, &held) {
@@ -394,14 +394,14 @@ pub(crate) fn fill<'p, 'a, S: Steady>(
             most = next.count - 1;
             continue;
         }
-        // Floats inside a stretch are met at its end, when it is known to stand on this line.
+        // Floats inside a segment are met at its end, when it is known to stand on this line.
         let floats = floats_of(alloc, calc, next.first);
         let taken = Taken {
             part: next.first,
             floats: floats.as_slice(),
             held,
         };
-        load = with_stretch(alloc, calc, container, slot, load, taken);
+        load = with_segment(alloc, calc, container, slot, load, taken);
         load.guess = load.guess.taken(next.size);
         rest = next.rest;
     }

@@ -176,7 +176,7 @@ pub fn place_each<S: Steady>(
 }
 
 #[tactic(auto, unfolding(crate::specs::Contexts::context_at, crate::specs::steps::Words::room_in))]
-/// Whether so wide a stretch fits beside floats, in the span of height `tall` from `top` on.
+/// Whether so wide a segment fits beside floats, in the span of height `tall` from `top` on.
 pub fn fits<S: Steady>(
     calc: &mut S,
     container: &Container<'_, S::Num>,
@@ -192,8 +192,8 @@ pub fn fits<S: Steady>(
         (boxes_at S.at floats.now e) (S.at top.now e) (S.at tall.now e)) }
 {
     let room = band(calc, floats, container.cb, top, tall);
-    let across = band_width(calc, &room);
-    calc.le(width, &across)
+    let inline_size = band_width(calc, &room);
+    calc.le(width, &inline_size)
 }
 
 /// Whether two numbers are the same.

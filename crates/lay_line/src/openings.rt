@@ -1,4 +1,4 @@
-//! The beginning of a line: the floats before it, and its first stretch (CSS 2.1, 9.4.2, 9.5).
+//! The beginning of a line: the floats before it, and its first segment (CSS 2.1, 9.4.2, 9.5).
 ghost use Rattle.std.specs.Prelude.{◌≡◌, IsTrue, ⊤};
 ghost use Rattle.viz_calc.specs.Run.{LaysButMem};
 ghost use Rattle.layout_semantics.specs.InlineContent.{float_boxes};
@@ -15,7 +15,7 @@ use crate::containers::Container;
 use crate::endings::Begun;
 use crate::held::{Held, Piece, nothing};
 use crate::leaps::{Guess, text_in};
-use crate::loads::{Load, Taken, ahead, extent_at_start, with_stretch};
+use crate::loads::{Load, Taken, ahead, extent_at_start, with_segment};
 use crate::meeting::{Met, Slot, floats_of, place_each};
 use crate::shifts::strut;
 use lay_float::Floats;
@@ -29,7 +29,7 @@ pub struct Opening<'p, 'a, N> {
     pub met: Met<N>,
     /// The inline boxes that are open.
     pub opened: &'p [u32],
-    /// Its first stretch.
+    /// Its first segment.
     pub first: &'p [Piece<'a, N>],
     /// What that takes.
     pub held: Held<N>,
@@ -85,7 +85,7 @@ pub fn meet_before<S: Steady>(
     met
 }
 
-/// A line with its first stretch, which stands on it in any case.
+/// A line with its first segment, which stands on it in any case.
 pub fn first_load<S: Steady>(
     alloc: Global,
     calc: &mut S,
@@ -125,5 +125,5 @@ pub fn first_load<S: Steady>(
         floats: floats.as_slice(),
         held: opening.held,
     };
-    with_stretch(alloc, calc, container, slot, load, taken)
+    with_segment(alloc, calc, container, slot, load, taken)
 }

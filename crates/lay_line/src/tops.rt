@@ -25,7 +25,7 @@ pub struct Wanted<'w, 'a, N> {
     pub y: &'w N,
     /// The height of the tallest line of its container.
     pub tall: &'w N,
-    /// The width of its first stretch.
+    /// The width of its first segment.
     pub width: &'w N,
 }
 
@@ -41,7 +41,7 @@ fn lower<S: Steady>(calc: &mut S, best: Option<S::Num>, more: S::Num) -> S::Num
 }
 
 #[tactic(auto, unfolding(crate::specs::Contexts::context_at, crate::specs::steps::Meeting::stands_at))]
-/// Whether the line may stand there: beside no float, or where its first stretch fits.
+/// Whether the line may stand there: beside no float, or where its first segment fits.
 fn stands_at<S: Steady>(calc: &mut S, wanted: &Wanted<'_, '_, S::Num>, top: &S::Num) -> bool
     ensures { Lays S.run calc.old calc.new (λ e. result)
         (λ e. stands_in (context_at S.at wanted.now.container.now e)
@@ -105,7 +105,7 @@ fn highest_below<S: Steady>(calc: &mut S, wanted: &Wanted<'_, '_, S::Num>) -> Op
 }
 
 #[tactic(auto, unfolding(crate::specs::steps::Meeting::top_in))]
-/// The highest place from y on where the line's first stretch fits, or no float is met.
+/// The highest place from y on where the line's first segment fits, or no float is met.
 pub fn line_top<S: Steady>(calc: &mut S, wanted: &Wanted<'_, '_, S::Num>) -> S::Num
     ensures { Lays S.run calc.old calc.new (S.at result)
         (λ e. top_in (context_at S.at wanted.now.container.now e)

@@ -6,7 +6,7 @@ use Rattle.viz_base.specs.declared.lengths.Length.{Length}
 use Rattle.viz_base.specs.declared.trees.BoxTree.{BoxTree}
 use Rattle.viz_base.specs.declared.worlds.World.{World}
 use Rattle.viz_calc.specs.State.{AllSmall}
-use Rattle.layout_semantics.specs.FlowBoxes.{across, content_from, flow_children, block_band}
+use Rattle.layout_semantics.specs.FlowBoxes.{inline_size, content_from, flow_children, block_band}
 use Rattle.layout_semantics.specs.Horizontal.{flow_widths}
 use Rattle.layout_semantics.specs.InlineContent.{is_floated_at}
 use Rattle.layout_semantics.specs.Lengths.{margins}
@@ -26,12 +26,12 @@ content_way left x = (left +ℤ x.margin_left) ∷ (left +ℤ x.margin_left +ℤ
 
 -- to a margin in a containing block
 abbrev pub MarginFits : BoxTree → World → Length → Band ℤ → Type 0
-MarginFits tree w length cb = AllSmall (across cb ∷ []) × UsedFits tree w length (across cb)
+MarginFits tree w length cb = AllSmall (inline_size cb ∷ []) × UsedFits tree w length (inline_size cb)
 
 -- to the containing block of the boxes in a block
 abbrev pub InsideFits : BoxTree → World → Band ℤ → ℕ → Type 0
-InsideFits tree w cb b = AllSmall (across cb ∷ [])
-    × (BlockFits tree w b (across cb) × AllSmall (content_way cb.left (flow_widths tree w b (across cb))))
+InsideFits tree w cb b = AllSmall (inline_size cb ∷ [])
+    × (BlockFits tree w b (inline_size cb) × AllSmall (content_way cb.left (flow_widths tree w b (inline_size cb))))
 
 -- of a box in its containing block, which itself fits: to its margins above and below,
 -- and to the containing block of the boxes in it where margins go on inside

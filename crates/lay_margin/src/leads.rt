@@ -7,7 +7,7 @@ ghost use Rattle.viz_calc.specs.Renderings.{band_at};
 ghost use Rattle.layout_semantics.specs.Lengths.{used as used_length, margins as margins_of};
 ghost use Rattle.layout_semantics.specs.InlineContent.{is_floated_at};
 ghost use Rattle.lay_margin.specs.Fitting.{edges, ends, content_way, MarginFits, InsideFits, LeadFits, KidsFit};
-ghost use Rattle.layout_semantics.specs.FlowBoxes.{across as width_of, content_from, flow_children};
+ghost use Rattle.layout_semantics.specs.FlowBoxes.{inline_size as width_of, content_from, flow_children};
 ghost use Rattle.lay_width.specs.Readings.{widths_at};
 ghost use Rattle.lay_margin.specs.Readings.{floats_at, passed_by};
 ghost use Rattle.layout_semantics.specs.Leads.{lead as landed};
@@ -102,7 +102,7 @@ fn wait<S: Steady>(calc: &mut S, cb: &Band<S::Num>, at: u32, waiting: &mut List<
 }
 
 /// The width of a containing block.
-pub fn across<S: Steady>(calc: &mut S, cb: &Band<S::Num>) -> S::Num
+pub fn inline_size<S: Steady>(calc: &mut S, cb: &Band<S::Num>) -> S::Num
     ensures { Lays S.run calc.old calc.new (S.at result) (λ e. width_of (band_at S.at cb.now e))
         (λ e. AllSmall (width_of (band_at S.at cb.now e) ∷ [])) }
 {
@@ -138,7 +138,7 @@ pub fn band_inside<S: Steady>(
         (λ e. inner_band tree.now e.world (band_at S.at cb.now e) b)
         (λ e. InsideFits tree.now e.world (band_at S.at cb.now e) b) }
 {
-    let room = across(calc, cb);
+    let room = inline_size(calc, cb);
     let terms = block(calc, tree, b, &room);
     content_between(calc, &cb.left, &terms)
 }
@@ -149,7 +149,7 @@ fn margin_in<S: Steady>(calc: &mut S, tree: &BoxTree, cb: &Band<S::Num>, length:
         (λ e. used_length tree.now e.world length.now (width_of (band_at S.at cb.now e)))
         (λ e. MarginFits tree.now e.world length.now (band_at S.at cb.now e)) }
 {
-    let room = across(calc, cb);
+    let room = inline_size(calc, cb);
     used(calc, tree, length, &room)
 }
 

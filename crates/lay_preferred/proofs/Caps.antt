@@ -10,11 +10,11 @@ use Rattle.viz_base.specs.declared.worlds.World.{World}
 use Rattle.viz_calc.specs.State.{AllSmall}
 use Rattle.layout_semantics.proofs.Pages.{forest}
 use Rattle.layout_semantics.specs.InlineContent.{Item, start, finish, word, space, atomic, forced, float, box_of, content, is_floated_at}
-use Rattle.layout_semantics.specs.Lengths.{held, maximum, margins, borders, paddings, used_if_absolute}
+use Rattle.layout_semantics.specs.Lengths.{clamped, maximum, margins, borders, paddings, used_if_absolute}
 use Rattle.layout_semantics.specs.Order.{kids_of}
 use Rattle.layout_semantics.specs.Preferred.{Inside, a_replaced, inline_content, blocks, inside_of, absolute_part, preferred}
 use Rattle.layout_semantics.specs.Replaced.{intrinsic}
-use Rattle.layout_semantics.specs.Stretches.{may_part, never}
+use Rattle.layout_semantics.specs.Segments.{may_part, never}
 use Rattle.layout_laws.proofs.Levels.{IsFrom, All-implied, kids-within}
 use Rattle.lay_line.specs.steps.Marks.{marks}
 use Rattle.lay_width.specs.Fitting.{own_width_of, MostFits, RatioFits}
@@ -22,7 +22,7 @@ use Rattle.lay_width.specs.steps.Terms.{tentative}
 use Rattle.lay_length.proofs.SmallNumbers.{size-+, size-max, size-min}
 use Rattle.lay_preferred.specs.Fitting.{side_way, SideFits, StartFits, EndFits, AroundFits, GivenFits, ReplacedFits, leasts, mosts, LengthFits, MaximumFits, LengthsFit, room_of, room_by, room_inside, BoxFits, AreWithin}
 use Rattle.lay_preferred.specs.steps.Columns.{no_children}
-use Rattle.lay_preferred.specs.steps.Outer.{edge, start_of, end_of, edges_of, held_of, with_edges, is_given, given, around, replaced, outer}
+use Rattle.lay_preferred.specs.steps.Outer.{edge, start_of, end_of, edges_of, clamped_of, with_edges, is_given, given, around, replaced, outer}
 use Rattle.lay_preferred.specs.steps.Parts.{Sized, sized, widths_of, inline_of, inline_in, blocks_in, IsInside}
 use Rattle.lay_preferred.proofs.Levels.{of-replaced, of-inline, of-blocks, content-inside}
 use Rattle.lay_preferred.proofs.OuterWidths.{outer-given, outer-inside}
@@ -44,9 +44,9 @@ three-size m b p rest n k lm lb lp lr =
     let z = size-+ m (b +ℤ (p +ℤ rest)) in
     omega (arith, lm, lb, lp, lr, x, y, z)
 
-held-size : (most : Option ℤ) (least x : ℤ) (k : ℕ) → IsWithin k most → unsigned_abs least ≤ k → unsigned_abs x ≤ k → unsigned_abs (held most least x) ≤ k
-held-size None least x k m l h = size-max x least k h l
-held-size (Some m) least x k lm l h = size-max _ least k (size-min x m k h lm) l
+clamped-size : (most : Option ℤ) (least x : ℤ) (k : ℕ) → IsWithin k most → unsigned_abs least ≤ k → unsigned_abs x ≤ k → unsigned_abs (clamped most least x) ≤ k
+clamped-size None least x k m l h = size-max x least k h l
+clamped-size (Some m) least x k lm l h = size-max _ least k (size-min x m k h lm) l
 
 within-by : (n : ℕ) (o : Option ℤ) → unsigned_abs (unwrap_or o (pos 0)) ≤ n → IsWithin n o
 within-by n None l = tt
@@ -98,18 +98,18 @@ module _ (tree : BoxTree) (w : World) where
         (part (margins tree at).right +ℤ (part (borders tree at).right +ℤ (part (paddings tree at).right +ℤ pos 0))) n (0 + 3 * n) f.margin.0.size f.border.0.size f.padding.0.size right in
         omega (arith, left)
 
-    held_of-size : (k : ℕ) (x : ℤ) → n ≤ k → unsigned_abs x ≤ k → unsigned_abs (held_of tree w at x) ≤ k
-    unfolding edge held_of
-    held_of-size k x l h =
+    clamped_of-size : (k : ℕ) (x : ℤ) → n ≤ k → unsigned_abs x ≤ k → unsigned_abs (clamped_of tree w at x) ≤ k
+    unfolding edge clamped_of
+    clamped_of-size k x l h =
         let least = f.least.size in
-        held-size _ _ x k (within-more n k _ l (maximum-within n _ f.greatest)) (omega (arith, l, least)) h
+        clamped-size _ _ x k (within-more n k _ l (maximum-within n _ f.greatest)) (omega (arith, l, least)) h
 
     around-size : (k : ℕ) (x : ℤ) → n ≤ k → unsigned_abs x ≤ k → unsigned_abs (with_edges tree w at x) ≤ k + 6 * n
     unfolding with_edges
     around-size k x l h =
-        let own = held_of-size k x l h in
+        let own = clamped_of-size k x l h in
         let e = edges-size in
-        let s = size-+ (held_of tree w at x) (edges_of tree w at) in
+        let s = size-+ (clamped_of tree w at x) (edges_of tree w at) in
         omega (arith, own, e, s)
 
     pub end-fits : n ≤ 2 ^ 90 → EndFits tree w at
@@ -136,7 +136,7 @@ module _ (tree : BoxTree) (w : World) where
     replaced-size = (one, one)
       where
         one : unsigned_abs (replaced tree w at).least ≤ n
-        one = held-size _ _ _ n (maximum-within n _ f.greatest) f.least.size (either-size n _ _ (absolute-within n _ f.width) f.by_height)
+        one = clamped-size _ _ _ n (maximum-within n _ f.greatest) f.least.size (either-size n _ _ (absolute-within n _ f.width) f.by_height)
 
     ratio-fits : (o : Option ℤ) → unsigned_abs (tentative (intrinsic tree at) None o) ≤ 2 ^ 100 → RatioFits (intrinsic tree at) o
     ratio-fits None l = (l, tt)

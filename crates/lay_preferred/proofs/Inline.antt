@@ -16,8 +16,8 @@ use Rattle.layout_semantics.specs.Lengths.{used, total}
 use Rattle.layout_semantics.specs.Lists.{table_of}
 use Rattle.layout_semantics.specs.LineFilling.{item_width}
 use Rattle.layout_semantics.specs.LineHeights.{InlineContext}
-use Rattle.layout_semantics.specs.Preferred.{absolute_part, measured_width, preferred_item, preferred_stretch, preferred_floats, preferred_inline, greatest, with_least, with_most}
-use Rattle.layout_semantics.specs.Stretches.{stretches, pieces, may_part, never, what_stays}
+use Rattle.layout_semantics.specs.Preferred.{absolute_part, measured_width, preferred_item, preferred_segment, preferred_floats, preferred_inline, greatest, with_least, with_most}
+use Rattle.layout_semantics.specs.Segments.{segments, pieces, may_part, never, what_stays}
 use Rattle.layout_laws.proofs.Members.{first_member}
 use Rattle.layout_laws.proofs.Greatest.{All-at}
 use Rattle.layout_laws.proofs.Levels.{IsFrom, inner_boxes-from}
@@ -27,7 +27,7 @@ use Rattle.lay_line.specs.steps.Cutting.{parted}
 use Rattle.lay_line.specs.steps.Held.{Held, nothing_held, with_item, with_items}
 use Rattle.lay_line.specs.steps.Loading.{parted_by, parts_of}
 use Rattle.lay_line.specs.steps.Marks.{marks, marked_parts}
-use Rattle.lay_line.proofs.Cuts.{stretches-are, pieces-are}
+use Rattle.lay_line.proofs.Cuts.{segments-are, pieces-are}
 use Rattle.lay_line.proofs.Marks.{marks-same}
 use Rattle.lay_line.proofs.Widths.{width-same}
 use Rattle.viz_calc.specs.World.{Reading}
@@ -60,8 +60,8 @@ marked-same [] ms = refl
 marked-same (i ∷ items) [] = ap (parted_by i false) (marked-same items []) ∙ parted-same i false (marked_parts items [])
 marked-same (i ∷ items) (m ∷ ms) = ap (parted_by i m) (marked-same items ms) ∙ parted-same i m (marked_parts items ms)
 
-stretches-same : (tree : BoxTree) (items : List Item) → parts_of items (marks (may_part tree) None None items) ≡ stretches tree items
-stretches-same tree items = marked-same items (marks (may_part tree) None None items) ∙ marks-same (may_part tree) None None items ∙ sym (stretches-are tree items)
+segments-same : (tree : BoxTree) (items : List Item) → parts_of items (marks (may_part tree) None None items) ≡ segments tree items
+segments-same tree items = marked-same items (marks (may_part tree) None None items) ∙ marks-same (may_part tree) None None items ∙ sym (segments-are tree items)
 
 pieces-same : (items : List Item) → parts_of items (marks never None None items) ≡ pieces items
 pieces-same items = marked-same items (marks never None None items) ∙ marks-same never None None items ∙ sym (pieces-are items)
@@ -129,8 +129,8 @@ module _ (tree : BoxTree) (w : World) (table : List (Option ℤ)) where
       nothing_more : h.width ≡ h.width +ℤ pos 0
       nothing_more = omega (arith, ints)
 
-  stretch-same : (items : List Item) → (with_items (item_width nowhere) nothing_held items).width ≡ preferred_stretch tree w table items
-  stretch-same items = sym (width-same nowhere items) ∙ sums-same (what_stays items)
+  segment-same : (items : List Item) → (with_items (item_width nowhere) nothing_held items).width ≡ preferred_segment tree w table items
+  segment-same items = sym (width-same nowhere items) ∙ sums-same (what_stays items)
 
 -- ---- parts whose widths a table gives
 
@@ -169,16 +169,16 @@ module _ (tree : BoxTree) (w : World) (least most : List (Option ℤ)) where
   floats-same sum (finish at ∷ items) = floats-same sum items
   floats-same sum (forced at ∷ items) = floats-same sum items
 
-  least-part : (items : List Item) → least_width (sized tabled items) ≡ preferred_stretch tree w least items
+  least-part : (items : List Item) → least_width (sized tabled items) ≡ preferred_segment tree w least items
   unfolding least_width
-  least-part items = ap (λ (h : Held). h.width) (least-held nothing_held items) ∙ stretch-same tree w least items
+  least-part items = ap (λ (h : Held). h.width) (least-held nothing_held items) ∙ segment-same tree w least items
 
-  most-part : (items : List Item) → most_width (sized tabled items) ≡ preferred_stretch tree w most items +ℤ total (preferred_floats most items)
+  most-part : (items : List Item) → most_width (sized tabled items) ≡ preferred_segment tree w most items +ℤ total (preferred_floats most items)
   unfolding most_width
   most-part items =
       ap (λ (h : Held). h.width +ℤ floats_from (pos 0) (sized tabled items)) (most-held nothing_held items)
-      ∙ ap (λ x. x +ℤ floats_from (pos 0) (sized tabled items)) (stretch-same tree w most items)
-      ∙ ap (λ x. preferred_stretch tree w most items +ℤ x) (floats-same (pos 0) items ∙ none_before (total (preferred_floats most items)))
+      ∙ ap (λ x. x +ℤ floats_from (pos 0) (sized tabled items)) (segment-same tree w most items)
+      ∙ ap (λ x. preferred_segment tree w most items +ℤ x) (floats-same (pos 0) items ∙ none_before (total (preferred_floats most items)))
     where
       none_before : (x : ℤ) → pos 0 +ℤ x ≡ x
       none_before x = omega (arith, ints)
@@ -200,12 +200,12 @@ module _ (tree : BoxTree) (w : World) (least most : List (Option ℤ)) where
   float-same best (forced at ∷ items) = float-same best items
 
   pub tabled-is : (items : List Item) → inline_of tree items (sized tabled items)
-      ≡ record { least = greatest (map (preferred_stretch tree w least) (stretches tree items) ++ preferred_floats least items); most = greatest (map (λ piece. preferred_stretch tree w most piece +ℤ total (preferred_floats most piece)) (pieces items)) }
+      ≡ record { least = greatest (map (preferred_segment tree w least) (segments tree items) ++ preferred_floats least items); most = greatest (map (λ piece. preferred_segment tree w most piece +ℤ total (preferred_floats most piece)) (pieces items)) }
   tabled-is items =
       ap (λ x. both_of (or_zero x) (or_zero (widest most_width None (parts_of (sized tabled items) (marks never None None items))))) first
-      ∙ ap (λ x. both_of x (or_zero (widest most_width None (parts_of (sized tabled items) (marks never None None items))))) (greatest-same (map (preferred_stretch tree w least) (stretches tree items) ++ preferred_floats least items))
-      ∙ ap (λ x. both_of (greatest (map (preferred_stretch tree w least) (stretches tree items) ++ preferred_floats least items)) (or_zero x)) second
-      ∙ ap (both_of (greatest (map (preferred_stretch tree w least) (stretches tree items) ++ preferred_floats least items))) (greatest-same (map (λ piece. preferred_stretch tree w most piece +ℤ total (preferred_floats most piece)) (pieces items)))
+      ∙ ap (λ x. both_of x (or_zero (widest most_width None (parts_of (sized tabled items) (marks never None None items))))) (greatest-same (map (preferred_segment tree w least) (segments tree items) ++ preferred_floats least items))
+      ∙ ap (λ x. both_of (greatest (map (preferred_segment tree w least) (segments tree items) ++ preferred_floats least items)) (or_zero x)) second
+      ∙ ap (both_of (greatest (map (preferred_segment tree w least) (segments tree items) ++ preferred_floats least items))) (greatest-same (map (λ piece. preferred_segment tree w most piece +ℤ total (preferred_floats most piece)) (pieces items)))
     where
       both_of : ℤ → ℤ → Preferred ℤ
       both_of x y = record { least = x; most = y }
@@ -217,18 +217,18 @@ module _ (tree : BoxTree) (w : World) (least most : List (Option ℤ)) where
           one i = record { item = i; widths = tabled i }
 
       first : widest_float (widest least_width None (parts_of (sized tabled items) (marks (may_part tree) None None items))) (sized tabled items)
-          ≡ most_of None (map (preferred_stretch tree w least) (stretches tree items) ++ preferred_floats least items)
+          ≡ most_of None (map (preferred_segment tree w least) (segments tree items) ++ preferred_floats least items)
       first =
-          ap (λ ps. widest_float (widest least_width None ps) (sized tabled items)) (parts (marks (may_part tree) None None items) ∙ ap (map (sized tabled)) (stretches-same tree items))
-          ∙ ap (λ o. widest_float o (sized tabled items)) (widest-same least_width (preferred_stretch tree w least) least-part None (stretches tree items))
-          ∙ float-same (most_of None (map (preferred_stretch tree w least) (stretches tree items))) items
-          ∙ sym (most-append None (map (preferred_stretch tree w least) (stretches tree items)) (preferred_floats least items))
+          ap (λ ps. widest_float (widest least_width None ps) (sized tabled items)) (parts (marks (may_part tree) None None items) ∙ ap (map (sized tabled)) (segments-same tree items))
+          ∙ ap (λ o. widest_float o (sized tabled items)) (widest-same least_width (preferred_segment tree w least) least-part None (segments tree items))
+          ∙ float-same (most_of None (map (preferred_segment tree w least) (segments tree items))) items
+          ∙ sym (most-append None (map (preferred_segment tree w least) (segments tree items)) (preferred_floats least items))
 
       second : widest most_width None (parts_of (sized tabled items) (marks never None None items))
-          ≡ most_of None (map (λ piece. preferred_stretch tree w most piece +ℤ total (preferred_floats most piece)) (pieces items))
+          ≡ most_of None (map (λ piece. preferred_segment tree w most piece +ℤ total (preferred_floats most piece)) (pieces items))
       second =
           ap (widest most_width None) (parts (marks never None None items) ∙ ap (map (sized tabled)) (pieces-same items))
-          ∙ widest-same most_width (λ piece. preferred_stretch tree w most piece +ℤ total (preferred_floats most piece)) most-part None (pieces items)
+          ∙ widest-same most_width (λ piece. preferred_segment tree w most piece +ℤ total (preferred_floats most piece)) most-part None (pieces items)
 
 -- ---- the tables of the boxes in inline content
 

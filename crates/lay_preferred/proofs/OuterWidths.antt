@@ -10,13 +10,13 @@ use Rattle.viz_base.specs.declared.trees.Kind.TheVariants as of_kind
 use Rattle.viz_base.specs.declared.worlds.World.{World}
 use Rattle.layout_semantics.specs.Blocks.{kind_of}
 use Rattle.layout_semantics.specs.Lengths.{used_if_absolute}
-use Rattle.layout_semantics.specs.Preferred.{absolute_part, outer_edges, held_absolute, outer_width, preferred}
+use Rattle.layout_semantics.specs.Preferred.{absolute_part, outer_edges, clamped_absolute, outer_width, preferred}
 use Rattle.lay_width.specs.Fitting.{own_width_of}
-use Rattle.lay_preferred.specs.steps.Outer.{edge, edges_of, held_of, with_edges, has_own, is_absolute, is_given, given, around, outer}
+use Rattle.lay_preferred.specs.steps.Outer.{edge, edges_of, clamped_of, with_edges, has_own, is_absolute, is_given, given, around, outer}
 
 module _ (tree : BoxTree) (w : World) (at : ℕ) where
   abbrev so_wide : ℤ → ℤ
-  so_wide y = held_absolute tree w at y +ℤ outer_edges tree w at
+  so_wide y = clamped_absolute tree w at y +ℤ outer_edges tree w at
 
   by-own : (x : ℤ) (k : Kind) → kind_of tree at ≡ k → has_own k ≡ true → outer_width tree w at x ≡ so_wide (unwrap_or (used_if_absolute tree w (own_width_of tree at)) x)
   by-own x of_kind.Replaced e f = absurd (cc)
@@ -73,12 +73,12 @@ module _ (tree : BoxTree) (w : World) (at : ℕ) where
 
   -- a box of a given width, whatever is in it
   pub outer-given : is_given tree at ≡ true → given tree w at ≡ outer tree w at
-  unfolding given outer with_edges held_of edges_of edge
+  unfolding given outer with_edges clamped_of edges_of edge
   outer-given e = ap (λ x. pair x (so_wide (absolute_part tree w (own_width_of tree at)))) (sym (width-given (preferred tree w at).least e))
       ∙ ap (pair (outer_width tree w at (preferred tree w at).least)) (sym (width-given (preferred tree w at).most e))
 
   -- another by what is in it
   pub outer-inside : is_given tree at ≡ false → around tree w at (preferred tree w at) ≡ outer tree w at
-  unfolding around outer with_edges held_of edges_of
+  unfolding around outer with_edges clamped_of edges_of
   outer-inside e = ap (λ x. pair x (so_wide (preferred tree w at).most)) (sym (width-inside (preferred tree w at).least e))
       ∙ ap (pair (outer_width tree w at (preferred tree w at).least)) (sym (width-inside (preferred tree w at).most e))

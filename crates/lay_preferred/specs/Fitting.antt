@@ -23,7 +23,7 @@ use Rattle.layout_semantics.specs.Replaced.{intrinsic}
 use Rattle.lay_length.specs.Ways.{part_way}
 use Rattle.lay_line.specs.Ways.{item_way}
 use Rattle.lay_line.specs.steps.Held.{Held}
-use Rattle.lay_width.specs.Fitting.{own_width_of, UsedFits, HoldFits, RatioFits}
+use Rattle.lay_width.specs.Fitting.{own_width_of, UsedFits, ClampFits, RatioFits}
 use Rattle.lay_width.specs.steps.Terms.{tentative}
 use Rattle.lay_preferred.specs.steps.Outer.{edge, end_of, with_edges, replaced}
 use Rattle.lay_preferred.specs.steps.Parts.{Sized, width_of}
@@ -52,7 +52,7 @@ EdgesFit tree w at = EndFits tree w at × StartFits tree w at (end_of tree w at)
 
 -- to a width that is held, and has its edges
 abbrev pub AroundFits : BoxTree → World → ℕ → ℤ → Type 0
-AroundFits tree w at x = HoldFits tree w at (pos 0) × (EdgesFit tree w at × AllSmall (with_edges tree w at x ∷ []))
+AroundFits tree w at x = ClampFits tree w at (pos 0) × (EdgesFit tree w at × AllSmall (with_edges tree w at x ∷ []))
 
 abbrev pub GivenFits : BoxTree → World → ℕ → Type 0
 GivenFits tree w at = UsedFits tree w (own_width_of tree at) (pos 0)
@@ -66,7 +66,7 @@ ByHeightFits tree w at = UsedFits tree w (own_height tree at) (pos 0)
 abbrev pub ReplacedFits : BoxTree → World → ℕ → Type 0
 ReplacedFits tree w at =
     UsedFits tree w (own_width_of tree at) (pos 0)
-    × (ByHeightFits tree w at × (HoldFits tree w at (pos 0) × AllSmall ((replaced tree w at).least ∷ [])))
+    × (ByHeightFits tree w at × (ClampFits tree w at (pos 0) × AllSmall ((replaced tree w at).least ∷ [])))
 
 -- to the width of a text
 abbrev pub TextFits : BoxTree → World → ℕ → List ℕ → Type 0

@@ -6,7 +6,7 @@ ghost use Rattle.layout_semantics.specs.Blocks.{node_of};
 ghost use Rattle.layout_semantics.specs.Fonts.{text_width as text_width_of};
 ghost use Rattle.layout_semantics.specs.InlineContent.{holds_inline as holds_lines};
 ghost use Rattle.layout_semantics.specs.Preferred.{inside_of};
-ghost use Rattle.layout_semantics.specs.Stretches.{may_part, never};
+ghost use Rattle.layout_semantics.specs.Segments.{may_part, never};
 ghost use Rattle.lay_width.specs.Readings.{preferred_at};
 ghost use Rattle.lay_line.specs.Items.{item_of, items_of};
 ghost use Rattle.lay_line.specs.steps.Marks.{marks as marks_of};
@@ -20,13 +20,13 @@ ghost use Rattle.lay_preferred.specs.steps.Parts.{width_of, least_width, most_wi
 
 use crate::extremes::or_zero;
 use crate::outer::{end_width, start_width};
-use crate::parts::{widest_float, widest_piece, widest_stretch};
+use crate::parts::{widest_float, widest_piece, widest_segment};
 use lay_length::fonts::text_width;
 use lay_length::lengths::zero;
 use lay_line::breaks::{Parting, marks};
 use lay_line::held::Piece;
 use lay_line::items::Item;
-use lay_line::stretches::Stretches;
+use lay_line::segments::Segments;
 use lay_line::trees::{kids_at, node_at};
 use lay_width::properties::{inline_level_at, kind_at};
 use std::alloc::Global;
@@ -93,13 +93,13 @@ pub fn add_piece<'a, S: Steady>(
     }
 }
 
-/// The preferred minimum width of inline content in these stretches: the widest of them, or float.
+/// The preferred minimum width of inline content in these segments: the widest of them, or float.
 fn least_of<S: Steady>(calc: &mut S, pieces: &[Piece<Preferred<S::Num>>], marks: &[bool]) -> S::Num
     ensures { Lays S.run calc.old calc.new (S.at result)
         (λ e. of_or_zero (float_of (widest least_width None (parts_at S.at pieces.now marks.now e))
         (sizes_at S.at pieces.now e))) (λ e. IsHalf (leasts (sizes_at S.at pieces.now e))) }
 {
-    let widest = widest_stretch(calc, Stretches { pieces, marks });
+    let widest = widest_segment(calc, Segments { pieces, marks });
     let widest = widest_float(calc, widest, pieces);
     or_zero(calc, widest)
 }
@@ -110,7 +110,7 @@ fn most_of<S: Steady>(calc: &mut S, pieces: &[Piece<Preferred<S::Num>>], marks: 
         (λ e. of_or_zero (widest most_width None (parts_at S.at pieces.now marks.now e)))
         (λ e. IsHalf (mosts (sizes_at S.at pieces.now e))) }
 {
-    let widest = widest_piece(calc, Stretches { pieces, marks });
+    let widest = widest_piece(calc, Segments { pieces, marks });
     or_zero(calc, widest)
 }
 

@@ -7,14 +7,14 @@ ghost use Rattle.viz_calc.specs.Run.{Lays};
 ghost use Rattle.layout_semantics.specs.Lengths.{own, maximum};
 ghost use Rattle.layout_semantics.specs.Lengths.{used_if_absolute as if_absolute};
 ghost use Rattle.layout_semantics.specs.Replaced.{intrinsic as intrinsic_of};
-ghost use Rattle.lay_width.specs.Fitting.{own_width_of as width_of, UsedFits, MostFits, HoldFits};
+ghost use Rattle.lay_width.specs.Fitting.{own_width_of as width_of, UsedFits, MostFits, ClampFits};
 ghost use Rattle.lay_width.specs.Readings.{option_at, preferred_at};
 ghost use Rattle.lay_width.specs.steps.Terms.{tentative as tentative_of};
 ghost use Rattle.lay_preferred.specs.Fitting.{SideFits, StartFits, EndFits, EdgesFit, AroundFits, GivenFits, ByHeightFits, ReplacedFits};
-ghost use Rattle.lay_preferred.specs.steps.Outer.{edge, start_of, end_of, edges_of, held_of, with_edges as edged, is_given as given_width, given as given_of, around as around_of, replaced as replaced_of};
+ghost use Rattle.lay_preferred.specs.steps.Outer.{edge, start_of, end_of, edges_of, clamped_of, with_edges as edged, is_given as given_width, given as given_of, around as around_of, replaced as replaced_of};
 
 use lay_length::lengths::{pixels, zero};
-use lay_width::holding::used_if_absolute;
+use lay_width::clamping::used_if_absolute;
 use lay_width::limits::hold;
 use lay_width::properties::{
     borders, intrinsic, kind_at, margins, own_height, own_least, own_most, own_width, paddings,
@@ -133,12 +133,12 @@ fn most_width<S: Steady>(calc: &mut S, tree: &BoxTree, at: u32) -> Option<S::Num
     }
 }
 
-#[tactic(auto, unfolding(crate::specs::steps::Outer::held_of, crate::specs::steps::Outer::edge))]
+#[tactic(auto, unfolding(crate::specs::steps::Outer::clamped_of, crate::specs::steps::Outer::edge))]
 /// A width between the minimum and the maximum of a box; a percentage counts 0 as a minimum, and as a maximum none.
-fn held<S: Steady>(calc: &mut S, tree: &BoxTree, at: u32, width: S::Num) -> S::Num
+fn clamped<S: Steady>(calc: &mut S, tree: &BoxTree, at: u32, width: S::Num) -> S::Num
     ensures { Lays S.run calc.old calc.new (S.at result)
-        (λ e. held_of tree.now e.world at (S.at width e))
-        (λ e. HoldFits tree.now e.world at (pos 0)) }
+        (λ e. clamped_of tree.now e.world at (S.at width e))
+        (λ e. ClampFits tree.now e.world at (pos 0)) }
 {
     let most = most_width(calc, tree, at);
     let least = absolute_part(calc, tree, &own_least(tree, at));
@@ -146,15 +146,15 @@ fn held<S: Steady>(calc: &mut S, tree: &BoxTree, at: u32, width: S::Num) -> S::N
 }
 
 #[tactic(auto, unfolding(crate::specs::steps::Outer::with_edges))]
-/// So wide a box, held, with its edges.
+/// So wide a box, clamped, with its edges.
 fn with_edges<S: Steady>(calc: &mut S, tree: &BoxTree, at: u32, width: S::Num) -> S::Num
     ensures { Lays S.run calc.old calc.new (S.at result)
         (λ e. edged tree.now e.world at (S.at width e))
         (λ e. AroundFits tree.now e.world at (S.at width e)) }
 {
-    let held = held(calc, tree, at, width);
+    let clamped = clamped(calc, tree, at, width);
     let edges = edges(calc, tree, at);
-    calc.add(&held, &edges)
+    calc.add(&clamped, &edges)
 }
 
 #[tactic(auto, unfolding(crate::specs::steps::Outer::is_given))]
@@ -210,7 +210,7 @@ fn by_height<S: Steady>(calc: &mut S, tree: &BoxTree, at: u32) -> S::Num
     }
 }
 
-/// The width of a replaced box before it is held.
+/// The width of a replaced box before it is clamped.
 fn tentative<S: Steady>(calc: &mut S, tree: &BoxTree, at: u32) -> S::Num
     ensures { Lays S.run calc.old calc.new (S.at result)
         (λ e. tentative_of (intrinsic_of tree.now at)
@@ -225,14 +225,14 @@ fn tentative<S: Steady>(calc: &mut S, tree: &BoxTree, at: u32) -> S::Num
     }
 }
 
-#[tactic(auto, unfolding(crate::specs::steps::Outer::replaced, crate::specs::steps::Outer::held_of))]
+#[tactic(auto, unfolding(crate::specs::steps::Outer::replaced, crate::specs::steps::Outer::clamped_of))]
 /// The preferred widths of a replaced box (CSS 2.1, 10.3.2).
 pub fn replaced<S: Steady>(calc: &mut S, tree: &BoxTree, at: u32) -> Preferred<S::Num>
     ensures { Lays S.run calc.old calc.new (preferred_at S.at result)
         (λ e. replaced_of tree.now e.world at) (λ e. ReplacedFits tree.now e.world at) }
 {
     let width = tentative(calc, tree, at);
-    let least = held(calc, tree, at, width);
+    let least = clamped(calc, tree, at, width);
     let most = calc.copy(&least);
     Preferred { least, most }
 }

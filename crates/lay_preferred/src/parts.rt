@@ -14,7 +14,7 @@ use crate::extremes::larger;
 use lay_length::lengths::zero;
 use lay_line::held::{Held, Piece, nothing, with_item};
 use lay_line::items::Item;
-use lay_line::stretches::{Stretches, cut_first};
+use lay_line::segments::{Segments, cut_first};
 use viz_base::Preferred;
 use viz_calc::Steady;
 
@@ -52,7 +52,7 @@ fn most_after<S: Steady>(
     }
 }
 
-/// What a stretch holds, after what is before it.
+/// What a segment holds, after what is before it.
 fn least_held<S: Steady>(
     calc: &mut S,
     start: Held<S::Num>,
@@ -87,7 +87,7 @@ fn most_held<S: Steady>(
 }
 
 #[tactic(auto, unfolding(crate::specs::steps::Parts::least_width))]
-/// The width of a stretch without the spaces at its ends.
+/// The width of a segment without the spaces at its ends.
 fn least_width<S: Steady>(calc: &mut S, part: &[Piece<Preferred<S::Num>>]) -> S::Num
     ensures { Lays S.run calc.old calc.new (S.at result) (λ e. least_of (sizes_at S.at part.now e))
         (λ e. IsHalf (leasts (sizes_at S.at part.now e))) }
@@ -172,17 +172,17 @@ pub fn widest_float<S: Steady>(
     best
 }
 
-/// The widest stretch, where there is one.
-pub fn widest_stretch<S: Steady>(
+/// The widest segment, where there is one.
+pub fn widest_segment<S: Steady>(
     calc: &mut S,
-    stretches: Stretches<'_, '_, Preferred<S::Num>>,
+    segments: Segments<'_, '_, Preferred<S::Num>>,
 ) -> Option<S::Num>
     ensures { Lays S.run calc.old calc.new (option_at S.at result)
         (λ e. widest least_of None
-        (parts_at S.at stretches.entry.pieces.now stretches.entry.marks.now e))
-        (λ e. IsHalf (leasts (sizes_at S.at stretches.entry.pieces.now e))) }
+        (parts_at S.at segments.entry.pieces.now segments.entry.marks.now e))
+        (λ e. IsHalf (leasts (sizes_at S.at segments.entry.pieces.now e))) }
 {
-    let mut rest = stretches;
+    let mut rest = segments;
     let mut best = None;
     while let Some(cut) = cut_first(&rest) {
         let width = least_width(calc, cut.first);
@@ -195,7 +195,7 @@ pub fn widest_stretch<S: Steady>(
 /// The widest piece with the floats in it, where there is one.
 pub fn widest_piece<S: Steady>(
     calc: &mut S,
-    pieces: Stretches<'_, '_, Preferred<S::Num>>,
+    pieces: Segments<'_, '_, Preferred<S::Num>>,
 ) -> Option<S::Num>
     ensures { Lays S.run calc.old calc.new (option_at S.at result)
         (λ e. widest most_of None (parts_at S.at pieces.entry.pieces.now pieces.entry.marks.now e))

@@ -1,2 +1,2 @@
-pub mod HeldTerms
+pub mod ClampedTerms
 pub mod Levels

@@ -17,7 +17,7 @@ use Rattle.layout_semantics.specs.Replaced.{by_ratio, intrinsic, replaced_size}
 use Rattle.layout_semantics.specs.DefiniteHeights.{percentage_container, least_height, definite_height_to, definite_height, given_height}
 use Rattle.layout_laws.specs.Terms.{own_maximum, own_minimum}
 use Rattle.lay_length.specs.Ways.{used_way}
-use Rattle.lay_width.specs.steps.Terms.{around, room_between, again, held_again}
+use Rattle.lay_width.specs.steps.Terms.{around, room_between, again, clamped_again}
 
 -- the values on the way to a used length are small
 abbrev pub UsedFits : BoxTree → World → Length → ℤ → Type 0
@@ -78,8 +78,8 @@ FixedFits left_auto right_auto t cb =
 
 -- ---- minima and maxima
 
-abbrev pub HoldFits : BoxTree → World → ℕ → ℤ → Type 0
-HoldFits tree w at cb = MostFits tree w (own tree at (λ (s : Style). s.max_width) None) cb
+abbrev pub ClampFits : BoxTree → World → ℕ → ℤ → Type 0
+ClampFits tree w at cb = MostFits tree w (own tree at (λ (s : Style). s.max_width) None) cb
     × UsedFits tree w (own tree at (λ (s : Style). s.min_width) nothing) cb
 
 -- ---- definite heights
@@ -96,15 +96,15 @@ MostHeightFits tree w around None = Unit {0}
 MostHeightFits tree w around (Some length) = HeightFits tree w around length
 
 -- to what a maximum and a minimum make of a box's height, that of the content too
-abbrev pub HeldFits : BoxTree → World → ℕ → Option ℤ → Type 0
-HeldFits tree w b around =
+abbrev pub ClampedFits : BoxTree → World → ℕ → Option ℤ → Type 0
+ClampedFits tree w b around =
     MostHeightFits tree w around (own tree b (λ (s : Style). s.max_height) None)
     × (HeightFits tree w around (least_height tree b) × AllSmall (pos 0 ∷ []))
 
--- to the height that a box's own property gives, held by its maximum and minimum
+-- to the height that a box's own property gives, clamped by its maximum and minimum
 abbrev pub OwnHeightFits : BoxTree → World → Option ℤ → ℕ → Type 0
 OwnHeightFits tree w around at = HeightFits tree w around (own tree at (λ (s : Style). s.height) of_length.Auto)
-    × HeldFits tree w at around
+    × ClampedFits tree w at around
 
 -- to the height that percentages of a box's heights are of, up so many levels
 unfoldable pub DefiniteFits_to : ℕ → BoxTree → World → ℕ → Type 0
@@ -115,7 +115,7 @@ DefiniteFits_to (suc levels) tree w at = elim (percentage_container tree at) as 
       × OwnHeightFits tree w (definite_height_to levels tree w container) container
 ]
 
--- to the height that a box's own property gives, not held
+-- to the height that a box's own property gives, not clamped
 abbrev pub GivenFits : BoxTree → World → ℕ → Type 0
 GivenFits tree w at = DefiniteFits_to (suc at) tree w at
     × HeightFits tree w (definite_height tree w at) (own tree at (λ (s : Style). s.height) of_length.Auto)
@@ -127,7 +127,7 @@ abbrev pub RatioFits : ℕ × ℕ → Option ℤ → Type 0
 RatioFits size None = AllSmall (pos (64 * size.0) ∷ [])
 RatioFits size (Some height) = AllSmall (by_ratio height size.1 size.0 ∷ [])
 
--- to a replaced box's width before it is held: what follows from the height only where its own is `auto`
+-- to a replaced box's width before it is clamped: what follows from the height only where its own is `auto`
 abbrev pub TentativeFits : BoxTree → World → ℕ → Length → ℤ → Type 0
 TentativeFits tree w at of_length.Auto cb = GivenFits tree w at
     × RatioFits (intrinsic tree at) (given_height tree w at)
@@ -135,7 +135,7 @@ TentativeFits tree w at length cb = UsedFits tree w length cb
 
 abbrev pub ReplacedFits : BoxTree → World → ℕ → ℤ → Type 0
 ReplacedFits tree w at cb =
-    TentativeFits tree w at (own tree at (λ (s : Style). s.width) of_length.Auto) cb × HoldFits tree w at cb
+    TentativeFits tree w at (own tree at (λ (s : Style). s.width) of_length.Auto) cb × ClampFits tree w at cb
 
 -- ---- boxes
 
@@ -147,7 +147,7 @@ FixedBlockFits tree at edges cb width =
 -- to the terms of a block whose width is what is left, with these edges: they may be computed again with another width
 abbrev pub FillingFits : BoxTree → World → ℕ → ℤ → Widths ℤ → Type 0
 FillingFits tree w at cb edges =
-    AllSmall (sum_way edges) × (AllSmall (room_way edges cb) × (HoldFits tree w at cb
+    AllSmall (sum_way edges) × (AllSmall (room_way edges cb) × (ClampFits tree w at cb
     × by_again (again (own_maximum tree w at cb) (own_minimum tree w at cb) (room_between edges cb))))
   where
     by_again : Option ℤ → Type 0
@@ -158,7 +158,7 @@ FillingFits tree w at cb edges =
 abbrev pub GivenBlockFits : BoxTree → World → ℕ → ℤ → Length → Widths ℤ → Type 0
 GivenBlockFits tree w at cb length edges =
     UsedFits tree w length cb
-    × (HoldFits tree w at cb × FixedBlockFits tree at edges cb (held_again tree w at cb (used tree w length cb)))
+    × (ClampFits tree w at cb × FixedBlockFits tree at edges cb (clamped_again tree w at cb (used tree w length cb)))
 
 abbrev pub own_width_of : BoxTree → ℕ → Length
 own_width_of tree at = own tree at (λ (s : Style). s.width) of_length.Auto
@@ -184,7 +184,7 @@ FittedFits tree w length cb p edges = UsedFits tree w length cb
 abbrev pub ShrunkFits : BoxTree → World → ℕ → ℤ → Preferred ℤ → Type 0
 ShrunkFits tree w at cb p =
     EdgesFit tree w at cb
-    × (FittedFits tree w (own_width_of tree at) cb p (terms_around tree w at cb (pos 0)) × HoldFits tree w at cb)
+    × (FittedFits tree w (own_width_of tree at) cb p (terms_around tree w at cb (pos 0)) × ClampFits tree w at cb)
 
 -- to the terms of a replaced block with these edges
 abbrev pub ReplacedBetweenFits : BoxTree → World → ℕ → ℤ → Widths ℤ → Type 0

@@ -6,7 +6,7 @@ ghost use Rattle.viz_calc.specs.State.{AllSmall, WhereOpen};
 ghost use Rattle.viz_calc.specs.Run.{Goes, Blames, Lays};
 ghost use Rattle.layout_semantics.specs.Lengths.{own};
 ghost use Rattle.layout_semantics.specs.Lengths.{margins as margins_at};
-ghost use Rattle.layout_semantics.specs.Horizontal.{terms_around, fixed_terms, block_terms, shrunk_terms, held_terms, placing_of};
+ghost use Rattle.layout_semantics.specs.Horizontal.{terms_around, fixed_terms, block_terms, shrunk_terms, clamped_terms, placing_of};
 ghost use Rattle.layout_semantics.specs.Horizontal.{shrink_to_fit as fit_of, is_auto as is_automatic, widths as widths_of};
 ghost use Rattle.layout_semantics.specs.Preferred.{preferred as preferred_of};
 ghost use Rattle.layout_semantics.specs.Replaced.{replaced_size};
@@ -16,7 +16,7 @@ ghost use Rattle.lay_width.specs.Fitting.{EdgesFit, ReplacedFits, ReplacedBetwee
 ghost use Rattle.lay_width.specs.steps.Terms.{fixed_around, filled_block, given_block, fitted_by};
 ghost use Rattle.lay_width.specs.steps.Terms.{around as around_of};
 
-use crate::holding::{again, held};
+use crate::clamping::{again, clamped};
 use crate::limits::lesser;
 use crate::properties::{Placing, is_auto, margins, own_width, placed_as};
 use crate::replaced;
@@ -52,7 +52,7 @@ fn fixed_block<S: Steady>(
 }
 
 /// The terms of a block of width `auto` around which these edges are: the width is what is left, and where it
-/// is held the margins are those of a fixed one (CSS 2.1, 10.3.3, 10.4).
+/// is clamped the margins are those of a fixed one (CSS 2.1, 10.3.3, 10.4).
 fn filling_block<S: Steady>(
     calc: &mut S,
     tree: &BoxTree,
@@ -89,14 +89,14 @@ fn given_block<S: Steady>(
         (own tree.now b (λ (s : StyleOf). s.width) of_length.Auto) (widths_at S.at edges e)) }
 {
     let width = used(calc, tree, &own_width(tree, b), cb);
-    let width = held(calc, tree, b, cb, width);
+    let width = clamped(calc, tree, b, cb, width);
     fixed_block(calc, tree, b, cb, edges, width)
 }
 
 /// The terms of a block in normal flow (CSS 2.1, 10.3.3, 10.4).
 pub fn block<S: Steady>(calc: &mut S, tree: &BoxTree, b: u32, cb: &S::Num) -> Widths<S::Num>
     ensures { Lays S.run calc.old calc.new (widths_at S.at result)
-        (λ e. held_terms tree.now e.world b (S.at cb.now e)
+        (λ e. clamped_terms tree.now e.world b (S.at cb.now e)
         (block_terms tree.now e.world b (S.at cb.now e)))
         (λ e. BlockFits tree.now e.world b (S.at cb.now e)) }
 {
@@ -164,14 +164,14 @@ pub fn shrunk<S: Steady>(
     ensures goes { Goes (S.run calc.old) (S.run calc.new) }
     ensures value { WhereOpen (S.run calc.new).is_open
         (λ e. preferred_at S.at preferred.now e ≡ preferred_of tree.now e.world b
-        → widths_at S.at result e ≡ held_terms tree.now e.world b (S.at cb.now e)
+        → widths_at S.at result e ≡ clamped_terms tree.now e.world b (S.at cb.now e)
         (shrunk_terms tree.now e.world b (S.at cb.now e))) }
     ensures cause { Blames (S.run calc.old) (S.run calc.new) (WhereOpen (S.run calc.old).is_open
         (λ e. ShrunkFits tree.now e.world b (S.at cb.now e) (preferred_at S.at preferred.now e))) }
 {
     let edges = edges(calc, tree, b, cb);
     let width = shrunk_width(calc, tree, b, cb, preferred, &edges);
-    let width = held(calc, tree, b, cb, width);
+    let width = clamped(calc, tree, b, cb, width);
     around(edges, width)
 }
 

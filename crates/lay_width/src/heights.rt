@@ -98,7 +98,7 @@ pub fn least_around<S: Steady>(
     }
 }
 
-/// The height that a box's own property gives, held by its maximum and its minimum.
+/// The height that a box's own property gives, clamped by its maximum and its minimum.
 pub fn own_height_around<S: Steady>(
     calc: &mut S,
     tree: &BoxTree,

@@ -1,10 +1,10 @@
 //! The used widths and horizontal margins of boxes, over any arithmetic.
 #![tactic(auto)]
 
+pub mod clamping;
 pub mod engine;
 mod front;
 pub mod heights;
-pub mod holding;
 pub mod limits;
 pub mod properties;
 pub mod replaced;

@@ -13,8 +13,8 @@ ghost use Rattle.lay_width.specs.Readings.{option_at};
 ghost use Rattle.lay_width.specs.Fitting.{RatioFits, TentativeFits, ReplacedFits};
 ghost use Rattle.lay_width.specs.steps.Terms.{tentative as tentative_of};
 
+use crate::clamping::own_maximum;
 use crate::heights::given_height;
-use crate::holding::own_maximum;
 use crate::limits::hold;
 use crate::properties::{intrinsic, own_least, own_width};
 use lay_length::lengths::{pixels, used};
@@ -46,7 +46,7 @@ fn by_height<S: Steady>(calc: &mut S, size: (u32, u32), height: Option<S::Num>) 
     }
 }
 
-/// The width of a replaced box before it is held.
+/// The width of a replaced box before it is clamped.
 fn tentative<S: Steady>(calc: &mut S, tree: &BoxTree, b: u32, cb: &S::Num) -> S::Num
     ensures { Lays S.run calc.old calc.new (S.at result)
         (λ e. tentative_of (intrinsic_at tree.now b) (width_of tree.now e.world b (S.at cb.now e))

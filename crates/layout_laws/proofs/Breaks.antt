@@ -5,7 +5,7 @@ use Rattle.std.specs.Option.{option_map_or}
 use Rattle.std.proofs.Math.Bool.{and-true, and-false}
 use Rattle.viz_base.specs.declared.trees.BoxTree.{BoxTree}
 use Rattle.layout_semantics.specs.InlineContent.{Item, start, finish, word, space, atomic, forced, float}
-use Rattle.layout_semantics.specs.Stretches.{is_break, may_part, never, is_thing, is_forced}
+use Rattle.layout_semantics.specs.Segments.{is_break, may_part, never, is_thing, is_forced}
 
 module _ (tree : BoxTree) (back after : List Item) where
   pub never-same : is_break never back after ≡ (is_break (may_part tree) back after && option_map_or is_forced (find is_thing back) false)

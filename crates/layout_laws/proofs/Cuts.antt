@@ -1,7 +1,7 @@
 use Rattle.std.proofs.Common.{◌≡◌, ℕ, zero, suc, ◌<◌, Bool, true, false, if◌then◌else◌, List, [], ◌∷◌, ◌++◌, length, take, reverse, refl, sym, ◌∙◌, ap, subst, length-append, ◌↔◌, arith}
 use Rattle.std.specs.List.{AllByRecursion, onto_first}
 use Rattle.layout_semantics.specs.InlineContent.{Item}
-use Rattle.layout_semantics.specs.Stretches.{cut_where}
+use Rattle.layout_semantics.specs.Segments.{cut_where}
 use Rattle.layout_semantics.specs.LineFilling.{joined}
 use Rattle.layout_laws.specs.Parts.{IsFull, EndsAPart}
 use mathlib.Core.List.{reverse_aux}

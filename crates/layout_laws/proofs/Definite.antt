@@ -4,7 +4,7 @@ use Rattle.viz_base.specs.declared.lengths.Length.{Length}
 use Rattle.viz_base.specs.declared.lengths.Length.TheVariants as of_length
 use Rattle.viz_base.specs.declared.trees.BoxTree.{BoxTree}
 use Rattle.viz_base.specs.declared.worlds.World.{World}
-use Rattle.layout_semantics.specs.DefiniteHeights.{percentage_container, own_height, counts_as_auto, is_definite_to, is_definite, has_auto_height, height_around, held_around, definite_height_to, definite_height, given_height}
+use Rattle.layout_semantics.specs.DefiniteHeights.{percentage_container, own_height, counts_as_auto, is_definite_to, is_definite, has_auto_height, height_around, clamped_around, definite_height_to, definite_height, given_height}
 
 module _ (tree : BoxTree) (w : World) where
   auto-is : (around : Option ℤ) (length : Length) → counts_as_auto (is_some around) length ≡ is_none (height_around tree w around length)
@@ -28,7 +28,7 @@ module _ (tree : BoxTree) (w : World) where
       by None e again = rw e refl
       by (Some c) e again =
           let around = definite_height_to n tree w c in
-          rw e (ap (λ d. not (counts_as_auto d (own_height tree c))) (again c) ∙ (ap not (auto-is around (own_height tree c)) ∙ mapped (held_around tree w around c) (height_around tree w around (own_height tree c))))
+          rw e (ap (λ d. not (counts_as_auto d (own_height tree c))) (again c) ∙ (ap not (auto-is around (own_height tree c)) ∙ mapped (clamped_around tree w around c) (height_around tree w around (own_height tree c))))
 
   pub definite-is : (at : ℕ) → is_definite tree at ≡ is_some (definite_height tree w at)
   definite-is at = levels-definite (suc at) at

@@ -25,7 +25,7 @@ use Rattle.layout_semantics.specs.Rectangles.{Frame, placed_box}
 use Rattle.layout_semantics.specs.Replaced.{replaced_size}
 use Rattle.layout_laws.specs.Edges.{HasEdges, IsNonzero}
 use Rattle.layout_laws.specs.Terms.{IsInFlowBlock, own_width, own_maximum, own_minimum}
-use Rattle.layout_laws.proofs.HorizontalTerms.{widths-placed, held-any}
+use Rattle.layout_laws.proofs.HorizontalTerms.{widths-placed, clamped-any}
 
 -- ---- rectangles
 
@@ -87,7 +87,7 @@ module _ (tree : BoxTree) (w : World) (at : ℕ) (left : (margins tree at).left 
 
   pub block-halved : IsInFlowBlock tree at → Halved (widths tree w at cb)
   block-halved (inl e) =
-      subst Halved (sym (widths-placed tree w at cb block_flow e)) (held-any Halved (block_terms tree w at cb) (own_maximum tree w at cb) (own_minimum tree w at cb) (own_width tree w at cb) terms-halved)
+      subst Halved (sym (widths-placed tree w at cb block_flow e)) (clamped-any Halved (block_terms tree w at cb) (own_maximum tree w at cb) (own_minimum tree w at cb) (own_width tree w at cb) terms-halved)
   block-halved (inr e) = subst Halved (sym (widths-placed tree w at cb replaced_block e)) (fixed-halved (replaced_size tree w at cb).width)
 
 -- ---- what parts margins

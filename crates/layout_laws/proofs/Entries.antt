@@ -13,13 +13,13 @@ use Rattle.viz_base.specs.declared.worlds.World.{World}
 use Rattle.layout_semantics.specs.Order.{kids_of, document_order, roots, page_order}
 use Rattle.layout_semantics.specs.FlowBoxes.{flow_children}
 use Rattle.layout_semantics.specs.InlineContent.{has_line, is_floated_at, is_inline_level_at}
-use Rattle.layout_semantics.specs.Flow.{Progress, flow_to, flow_step, whole_alone, line_content}
+use Rattle.layout_semantics.specs.Flow.{Progress, flow_to, flow_step, whole_independent, line_content}
 use Rattle.layout_semantics.specs.Page.{page_rendering}
 use Rattle.layout_semantics.proofs.BlocksAlone.{no_lines, all_flow, passes}
 use Rattle.layout_semantics.proofs.Forest.{IsKid}
 use Rattle.layout_semantics.proofs.Pages.{forest}
 use Rattle.layout_laws.specs.Entries.{named_by, name_of, holds_blocks_alone}
-use Rattle.layout_laws.proofs.Flowing.{Fills, entries, of_box, all_of, alone-entries, children-entries}
+use Rattle.layout_laws.proofs.Flowing.{Fills, entries, of_box, all_of, independent-entries, children-entries}
 
 -- what laying out the lines of a box adds, where it has one
 abbrev pub LinesFill : BoxTree → World → (Kind → Bool) → Type 0
@@ -53,13 +53,13 @@ module _ (tree : BoxTree) (w : World) (counts : Kind → Bool) (lines : LinesFil
 
   abbrev rendered : List BoxNode → Rendering ℤ
   rendered [] = record { boxes = [] }
-  rendered (root ∷ rest) = record { boxes = (whole_alone tree w 0 (pos (64 * w.w))).boxes }
+  rendered (root ∷ rest) = record { boxes = (whole_independent tree w 0 (pos (64 * w.w))).boxes }
 
   rendered-entries : (bs : List BoxNode) → bs ≡ tree.boxes → entries tree w counts (rendered bs).boxes ≡ flat_map (of_box tree w counts) (flat_map (document_order tree.boxes) (roots bs))
   rendered-entries [] e = refl
   rendered-entries (root ∷ rest) e =
       let some : length (root ∷ rest) ≡ length tree.boxes = ap length e in
-      alone-entries tree w counts (flow_to tree w (length tree.boxes)) (length tree.boxes) (flow-fills (length tree.boxes)) 0 (pos (64 * w.w)) (omega arith) (omega arith)
+      independent-entries tree w counts (flow_to tree w (length tree.boxes)) (length tree.boxes) (flow-fills (length tree.boxes)) 0 (pos (64 * w.w)) (omega arith) (omega arith)
       ∙ ap (flat_map (of_box tree w counts)) (sym (append-nil (document_order tree.boxes 0)))
 
   pub page-entries : entries tree w counts (page_rendering tree w).boxes ≡ flat_map (of_box tree w counts) (page_order tree.boxes)
@@ -92,7 +92,7 @@ module _ (tree : BoxTree) (no_inline : (k : ℕ) → is_inline_level_at tree k �
 
 -- ---- blocks and floats alone
 
-module _ (tree : BoxTree) (alone : IsTrue (holds_blocks_alone tree)) where
+module _ (tree : BoxTree) (independent : IsTrue (holds_blocks_alone tree)) where
   no_inline : (k : ℕ) → is_inline_level_at tree k ≡ false
   unfolding is_floated_at is_inline_level_at
   no_inline k = by_box (slice_get tree.boxes k) refl
@@ -105,7 +105,7 @@ module _ (tree : BoxTree) (alone : IsTrue (holds_blocks_alone tree)) where
 
       by_box : (o : Option BoxNode) → slice_get tree.boxes k ≡ o → (option_map_or is_inline_level o false && not (option_map_or (is_floated tree.styles) o false)) ≡ false
       by_box None e = refl
-      by_box (Some b) e = by_test (is_floated tree.styles b) (is_inline_level b) (passes (λ (b : BoxNode). is_floated tree.styles b || not (is_inline_level b)) tree.boxes k b alone e)
+      by_box (Some b) e = by_test (is_floated tree.styles b) (is_inline_level b) (passes (λ (b : BoxNode). is_floated tree.styles b || not (is_inline_level b)) tree.boxes k b independent e)
 
   pub blocks-entries : (w : World) → map named_by (page_rendering tree w).boxes ≡ map (name_of tree) (page_order tree.boxes)
   blocks-entries w = no_inline-entries tree no_inline w

@@ -6,8 +6,8 @@ use Rattle.viz_base.specs.declared.worlds.World.{World}
 use Rattle.layout_semantics.specs.Lists.{table_of}
 use Rattle.layout_semantics.specs.Floats.{FloatBox, floating}
 use Rattle.layout_semantics.specs.InlineContent.{is_floated_at, has_line, inner_boxes}
-use Rattle.layout_semantics.specs.FlowBoxes.{is_replaced_at, is_context_root, flow_children, across}
-use Rattle.layout_semantics.specs.Flow.{Progress, Reached, alone, float_child, laid, reached, child, inner_size, flow_step, flow_to}
+use Rattle.layout_semantics.specs.FlowBoxes.{is_replaced_at, is_context_root, flow_children, inline_size}
+use Rattle.layout_semantics.specs.Flow.{Progress, Reached, independent, float_child, laid, reached, child, inner_size, flow_step, flow_to}
 use Rattle.layout_laws.specs.PlacedFloats.{ArePlacedAfter, none, next}
 use Rattle.layout_laws.proofs.PlacedFloats.{of_lines, float_next}
 
@@ -19,7 +19,7 @@ both a b c h (next floats side size cb top k) = next floats side size cb top (bo
 module _ (tree : BoxTree) (w : World) (inside : ℕ → Band ℤ → ℤ → Progress → Progress)
     (grows : (b : ℕ) (cb : Band ℤ) (top : ℤ) (p : Progress) → ArePlacedAfter p.floats (inside b cb top p).floats) where
   of_float : (cb : Band ℤ) (top : ℤ) (p : Progress) (f : ℕ) → ArePlacedAfter p.floats (float_child tree w inside cb top p f).floats
-  of_float cb top p f = float_next (floating tree f (alone tree w inside f (across cb)).size cb) p.floats p.floats p.least _ none
+  of_float cb top p f = float_next (floating tree f (independent tree w inside f (inline_size cb)).size cb) p.floats p.floats p.least _ none
 
   of_block : (cb : Band ℤ) (p : Progress) (b : ℕ) (r : Reached) → ArePlacedAfter p.floats (laid tree w inside cb p b r).after.floats
   of_block cb p b r = by (is_replaced_at tree b) (is_context_root tree b) refl refl

@@ -23,13 +23,13 @@ use Rattle.layout_semantics.specs.Margins.{collapsed}
 use Rattle.layout_semantics.specs.Rectangles.{Frame, content_top, shifted}
 use Rattle.layout_semantics.specs.Verticals.{verticals}
 use Rattle.layout_semantics.specs.Horizontal.{widths}
-use Rattle.layout_semantics.specs.FlowBoxes.{across, is_replaced_at, is_context_root, is_open_above, flow_children, content_from}
+use Rattle.layout_semantics.specs.FlowBoxes.{inline_size, is_replaced_at, is_context_root, is_open_above, flow_children, content_from}
 use Rattle.layout_semantics.specs.InlineContent.{is_floated_at, has_line, inner_boxes}
 use Rattle.layout_semantics.specs.LineHeights.{InlineContext}
 use Rattle.layout_semantics.specs.Lines.{LineList, lines_in}
 use Rattle.layout_semantics.specs.Leads.{Leading, is_up_to, none_passed, lead}
 use Rattle.layout_semantics.specs.Clearance.{Base, hangs, stands, Ground, on_ground, Resolved, with_waiting, is_cleared, cleared_edge, resolve_step, resolve_to, resolve}
-use Rattle.layout_semantics.specs.Flow.{Standing, at_top, below, Cleared, Progress, Alone, Reached, Laid, fresh, opened, alone, waiting_size, ground_of, next_edge, after_float, float_child, reached_at, reached, laid, child, standing_after, inner_size, entry_boxes, after_lines, line_content, flow_step, flow_to, flow}
+use Rattle.layout_semantics.specs.Flow.{Standing, at_top, below, Cleared, Progress, Independent, Reached, Laid, fresh, opened, independent, waiting_size, ground_of, next_edge, after_float, float_child, reached_at, reached, laid, child, standing_after, inner_size, entry_boxes, after_lines, line_content, flow_step, flow_to, flow}
 use Rattle.layout_semantics.proofs.Pages.{forest}
 use Rattle.layout_laws.proofs.Levels.{IsFrom, All-implied, map-same, inner_boxes-from}
 use Rattle.layout_laws.proofs.WholeLines.{shown, content-shown}
@@ -133,21 +133,21 @@ module _ (tree : BoxTree) (w : World) (f g : Inside) (b : ℕ)
   abbrev Late : ℕ → Type 0
   Late k = IsFrom tree.boxes (suc b) k
 
-  abbrev alone_frame : ℕ → ℤ → Frame
-  alone_frame k room = record { x = widths tree w k room; v = verticals tree w k room; corner = record { x = (widths tree w k room).margin_left; y = (verticals tree w k room).margin_top } }
+  abbrev independent_frame : ℕ → ℤ → Frame
+  independent_frame k room = record { x = widths tree w k room; v = verticals tree w k room; corner = record { x = (widths tree w k room).margin_left; y = (verticals tree w k room).margin_top } }
 
-  alone-same : (k : ℕ) (room : ℤ) → Late k → alone tree w f k room ≡ alone tree w g k room
-  alone-same k room h = by (is_replaced_at tree k) refl
+  independent-same : (k : ℕ) (room : ℤ) → Late k → independent tree w f k room ≡ independent tree w g k room
+  independent-same k room h = by (is_replaced_at tree k) refl
     where
-      by : (r : Bool) → is_replaced_at tree k ≡ r → alone tree w f k room ≡ alone tree w g k room
+      by : (r : Bool) → is_replaced_at tree k ≡ r → independent tree w f k room ≡ independent tree w g k room
       by true e = rw e refl
-      by false e = rw (e, same k h (content_from (pos 0) (widths tree w k room)) (content_top (alone_frame k room)) (fresh (content_top (alone_frame k room)))) refl
+      by false e = rw (e, same k h (content_from (pos 0) (widths tree w k room)) (content_top (independent_frame k room)) (fresh (content_top (independent_frame k room)))) refl
 
   float-same : (cb : Band ℤ) (top : ℤ) (p : Progress) (k : ℕ) → Late k → float_child tree w f cb top p k ≡ float_child tree w g cb top p k
-  float-same cb top p k h = ap (after_float tree w g cb p k (int_max top (next_edge p.standing))) (alone-same k (across cb) h)
+  float-same cb top p k h = ap (after_float tree w g cb p k (int_max top (next_edge p.standing))) (independent-same k (inline_size cb) h)
 
   size-same : (k : ℕ) → Late k → (x : Waiting ℤ) → IsFrom tree.boxes (suc k) x.at → waiting_size tree w f x ≡ waiting_size tree w g x
-  size-same k h x i = ap (λ (a : Alone). a.size) (alone-same x.at (across x.cb) (record { from = let low = h.from in let high = i.from in omega arith; within = i.within }))
+  size-same k h x i = ap (λ (a : Independent). a.size) (independent-same x.at (inline_size x.cb) (record { from = let low = h.from in let high = i.from in omega arith; within = i.within }))
 
   abbrev resolved : Inside → Base → List ℤ → Band ℤ → Progress → ℕ → (ℕ → Bool) → Resolved
   resolved inside base run cb p k passed = resolve (ground_of tree w inside base p) run cb k passed
@@ -205,7 +205,7 @@ module _ (tree : BoxTree) (w : World) (f g : Inside) (b : ℕ)
   -- ---- lines
 
   inner-same : (cb : Band ℤ) (k : ℕ) → Late k → inner_size tree w f cb k ≡ inner_size tree w g cb k
-  inner-same cb k h = rw (alone-same k (across cb) h) refl
+  inner-same cb k h = rw (independent-same k (inline_size cb) h) refl
 
   abbrev LateEntry : Entry ℤ → Type 0
   LateEntry (of_entry.Here p) = Unit {0}
@@ -230,8 +230,8 @@ module _ (tree : BoxTree) (w : World) (f g : Inside) (b : ℕ)
   boxes-same cb [] a = refl
   boxes-same cb (of_entry.Here p ∷ es) a = ap (λ (l : List (Placed ℤ)). p ∷ l) (boxes-same cb es a.1)
   boxes-same cb (of_entry.Goes k at ∷ es) a =
-      ap (λ (x : Alone). shifted at x.boxes ++ flat_map (entry_boxes tree w f cb) es) (alone-same k (across cb) a.0)
-      ∙ ap (λ (l : List (Placed ℤ)). shifted at (alone tree w g k (across cb)).boxes ++ l) (boxes-same cb es a.1)
+      ap (λ (x : Independent). shifted at x.boxes ++ flat_map (entry_boxes tree w f cb) es) (independent-same k (inline_size cb) a.0)
+      ∙ ap (λ (l : List (Placed ℤ)). shifted at (independent tree w g k (inline_size cb)).boxes ++ l) (boxes-same cb es a.1)
 
   abbrev sized : (ℕ → Band ℤ → ℤ → Progress → Progress) → Band ℤ → ℕ → ℕ × Inner ℤ
   sized inside cb k = (k, inner_size tree w inside cb k)

@@ -18,9 +18,9 @@ use Rattle.layout_semantics.specs.Blocks.{kind_of}
 use Rattle.layout_semantics.specs.Rectangles.{Frame, content_top, shifted}
 use Rattle.layout_semantics.specs.Verticals.{verticals}
 use Rattle.layout_semantics.specs.Horizontal.{widths}
-use Rattle.layout_semantics.specs.FlowBoxes.{across, is_replaced_at, is_context_root, is_open_above, content_from}
+use Rattle.layout_semantics.specs.FlowBoxes.{inline_size, is_replaced_at, is_context_root, is_open_above, content_from}
 use Rattle.layout_semantics.specs.InlineContent.{is_floated_at}
-use Rattle.layout_semantics.specs.Flow.{Standing, at_top, below, Progress, Reached, Cleared, alone, float_child, laid_block, laid, fresh, opened, flow_child, child, reached}
+use Rattle.layout_semantics.specs.Flow.{Standing, at_top, below, Progress, Reached, Cleared, independent, float_child, laid_block, laid, fresh, opened, flow_child, child, reached}
 use Rattle.layout_semantics.proofs.Pages.{forest}
 use Rattle.layout_semantics.proofs.Orders.{document_order-is}
 use Rattle.layout_laws.specs.Entries.{named_by, name_of}
@@ -47,9 +47,9 @@ flat_map-twice {A} {B} {C} f g (x ∷ xs) = flat_map-append g (f x) (flat_map f 
 -- the frame of a box in flow that is reached
 abbrev pub frame_of : BoxTree → World → Band ℤ → ℕ → Reached → Frame
 frame_of tree w cb k r = record {
-  x = widths tree w k (across cb);
-  v = verticals tree w k (across cb);
-  corner = record { x = cb.left +ℤ (widths tree w k (across cb)).margin_left; y = r.top };
+  x = widths tree w k (inline_size cb);
+  v = verticals tree w k (inline_size cb);
+  corner = record { x = cb.left +ℤ (widths tree w k (inline_size cb)).margin_left; y = r.top };
 }
 
 module _ (tree : BoxTree) (w : World) (counts : Kind → Bool) where
@@ -82,15 +82,15 @@ module _ (tree : BoxTree) (w : World) (counts : Kind → Bool) where
     nothing_in : (b : ℕ) → is_replaced_at tree b ≡ true → [] ≡ flat_map all_of (kids_of tree.boxes b)
     nothing_in b e = ap (flat_map all_of) (sym (replaced_holds_none tree b e))
 
-    pub alone-entries : (b : ℕ) (room : ℤ) → b < length tree.boxes → length tree.boxes ≤ levels + b → entries (alone tree w inside b room).boxes ≡ all_of b
-    alone-entries b room l m = by_sort (is_replaced_at tree b) refl ∙ sym (all_of-is b l)
+    pub independent-entries : (b : ℕ) (room : ℤ) → b < length tree.boxes → length tree.boxes ≤ levels + b → entries (independent tree w inside b room).boxes ≡ all_of b
+    independent-entries b room l m = by_sort (is_replaced_at tree b) refl ∙ sym (all_of-is b l)
       where
-        by_sort : (r : Bool) → is_replaced_at tree b ≡ r → entries (alone tree w inside b room).boxes ≡ of_box b ++ flat_map all_of (kids_of tree.boxes b)
+        by_sort : (r : Bool) → is_replaced_at tree b ≡ r → entries (independent tree w inside b room).boxes ≡ of_box b ++ flat_map all_of (kids_of tree.boxes b)
         by_sort true e = rw e (ap (λ (l : List (Kind × ℕ)). of_box b ++ l) (nothing_in b e))
         by_sort false e = rw e (ap (λ (l : List (Kind × ℕ)). of_box b ++ l) (fills b _ _ (fresh _) l m))
 
     pub float-entries : (cb : Band ℤ) (top : ℤ) (p : Progress) (k : ℕ) → k < length tree.boxes → length tree.boxes ≤ levels + k → entries (float_child tree w inside cb top p k).boxes ≡ entries p.boxes ++ all_of k
-    float-entries cb top p k l m = flat_map-append of_entry p.boxes _ ∙ ap (λ (l : List (Kind × ℕ)). entries p.boxes ++ l) (entries-shifted _ _ ∙ alone-entries k _ l m)
+    float-entries cb top p k l m = flat_map-append of_entry p.boxes _ ∙ ap (λ (l : List (Kind × ℕ)). entries p.boxes ++ l) (entries-shifted _ _ ∙ independent-entries k _ l m)
 
     -- a box and its content after what was there
     after : (before content : List (Placed ℤ)) (box : Placed ℤ) (k : ℕ) → k < length tree.boxes → of_entry box ≡ of_box k → entries content ≡ flat_map all_of (kids_of tree.boxes k) → entries (before ++ box ∷ content) ≡ entries before ++ all_of k

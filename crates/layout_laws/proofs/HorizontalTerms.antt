@@ -5,17 +5,17 @@ use Rattle.std.proofs.lemmas.Int.{ints, clamps}
 use Rattle.viz_base.specs.declared.layouts.Widths.{Widths}
 use Rattle.viz_base.specs.declared.trees.BoxTree.{BoxTree}
 use Rattle.viz_base.specs.declared.worlds.World.{World}
-use Rattle.layout_semantics.specs.Lengths.{held, margins}
+use Rattle.layout_semantics.specs.Lengths.{clamped, margins}
 use Rattle.layout_semantics.specs.Replaced.{replaced_size}
-use Rattle.layout_semantics.specs.Horizontal.{Placing, block_flow, shrunk, replaced_block, replaced_shrunk, placing_of, flow_widths, widths, sum_of, with_margins, terms_around, block_terms, shrunk_terms, fixed_terms, held_terms, at_most, at_least, again_unless, available, left_margin, is_auto}
-use Rattle.layout_laws.specs.Terms.{IsInFlowBlock, own_width, own_maximum, own_minimum, held_width}
+use Rattle.layout_semantics.specs.Horizontal.{Placing, block_flow, shrunk, replaced_block, replaced_shrunk, placing_of, flow_widths, widths, sum_of, with_margins, terms_around, block_terms, shrunk_terms, fixed_terms, clamped_terms, at_most, at_least, again_unless, available, left_margin, is_auto}
+use Rattle.layout_laws.specs.Terms.{IsInFlowBlock, own_width, own_maximum, own_minimum, clamped_width}
 
 -- ---- by the placing of a box
 
 abbrev of_placing : BoxTree → World → ℕ → ℤ → Placing → Widths ℤ
 of_placing tree w at cb p = elim p [
   | block_flow ↦ flow_widths tree w at cb
-  | shrunk ↦ held_terms tree w at cb (shrunk_terms tree w at cb)
+  | shrunk ↦ clamped_terms tree w at cb (shrunk_terms tree w at cb)
   | replaced_block ↦ fixed_terms tree w at cb (replaced_size tree w at cb).width
   | replaced_shrunk ↦ terms_around tree w at cb (replaced_size tree w at cb).width
 ]
@@ -36,7 +36,7 @@ terms-sum : (tree : BoxTree) (w : World) (at : ℕ) (cb : ℤ) (width : Option �
 terms-sum tree w at cb None = with_margins-sum (terms_around tree w at cb (available tree w at cb)) cb (terms_around tree w at cb (available tree w at cb)).margin_left
 terms-sum tree w at cb (Some width) = fixed-sum tree w at cb width
 
--- what holds of all terms holds of those that are held
+-- what holds of all terms holds of those that are clamped
 again-any : (P : Widths ℤ → Type 0) (b : Bool) (terms : Option ℤ → Widths ℤ) (width : ℤ) (t : Widths ℤ) → ((o : Option ℤ) → P (terms o)) → P t → P (again_unless b terms width t)
 again-any P true terms width t all one = one
 again-any P false terms width t all one = all (Some width)
@@ -45,12 +45,12 @@ most-any : (P : Widths ℤ → Type 0) (terms : Option ℤ → Widths ℤ) (most
 most-any P terms None t all one = one
 most-any P terms (Some most) t all one = again-any P (int_le t.content most) terms most t all one
 
-pub held-any : (P : Widths ℤ → Type 0) (terms : Option ℤ → Widths ℤ) (most : Option ℤ) (least : ℤ) (o : Option ℤ) → ((o : Option ℤ) → P (terms o)) → P (at_least terms least (at_most terms most (terms o)))
-held-any P terms most least o all = again-any P (int_le least (at_most terms most (terms o)).content) terms least (at_most terms most (terms o)) all (most-any P terms most (terms o) all (all o))
+pub clamped-any : (P : Widths ℤ → Type 0) (terms : Option ℤ → Widths ℤ) (most : Option ℤ) (least : ℤ) (o : Option ℤ) → ((o : Option ℤ) → P (terms o)) → P (at_least terms least (at_most terms most (terms o)))
+clamped-any P terms most least o all = again-any P (int_le least (at_most terms most (terms o)).content) terms least (at_most terms most (terms o)) all (most-any P terms most (terms o) all (all o))
 
 pub block-sum : (tree : BoxTree) (w : World) (at : ℕ) (cb : ℤ) → IsInFlowBlock tree at → sum_of (widths tree w at cb) ≡ cb
 block-sum tree w at cb (inl e) =
-    ap sum_of (widths-placed tree w at cb block_flow e) ∙ held-any (λ t. sum_of t ≡ cb) (block_terms tree w at cb) (own_maximum tree w at cb) (own_minimum tree w at cb) (own_width tree w at cb) (terms-sum tree w at cb)
+    ap sum_of (widths-placed tree w at cb block_flow e) ∙ clamped-any (λ t. sum_of t ≡ cb) (block_terms tree w at cb) (own_maximum tree w at cb) (own_minimum tree w at cb) (own_width tree w at cb) (terms-sum tree w at cb)
 block-sum tree w at cb (inr e) = ap sum_of (widths-placed tree w at cb replaced_block e) ∙ fixed-sum tree w at cb (replaced_size tree w at cb).width
 
 -- ---- the width
@@ -63,21 +63,21 @@ most-content terms (Some most) t of = by (int_le t.content most) refl
     by true e = omega (arith, ints, clamps)
     by false e = let same = of most in omega (arith, ints, clamps)
 
-held-content : (terms : Option ℤ → Widths ℤ) (most : Option ℤ) (least : ℤ) (t : Widths ℤ) → ((width : ℤ) → (terms (Some width)).content ≡ width) → (at_least terms least (at_most terms most t)).content ≡ held most least t.content
-held-content terms most least t of = by (int_le least (at_most terms most t).content) refl (most-content terms most t of)
+clamped-content : (terms : Option ℤ → Widths ℤ) (most : Option ℤ) (least : ℤ) (t : Widths ℤ) → ((width : ℤ) → (terms (Some width)).content ≡ width) → (at_least terms least (at_most terms most t)).content ≡ clamped most least t.content
+clamped-content terms most least t of = by (int_le least (at_most terms most t).content) refl (most-content terms most t of)
   where
-    by : (b : Bool) → int_le least (at_most terms most t).content ≡ b → (at_most terms most t).content ≡ option_map_or (int_min t.content) most t.content → (again_unless b terms least (at_most terms most t)).content ≡ held most least t.content
+    by : (b : Bool) → int_le least (at_most terms most t).content ≡ b → (at_most terms most t).content ≡ option_map_or (int_min t.content) most t.content → (again_unless b terms least (at_most terms most t)).content ≡ clamped most least t.content
     by true e m = omega (arith, ints, clamps)
     by false e m = let same = of least in omega (arith, ints, clamps)
 
-pub block-held : (tree : BoxTree) (w : World) (at : ℕ) (cb : ℤ) → placing_of tree at ≡ block_flow
-    → (widths tree w at cb).content ≡ held_width tree w at cb (block_terms tree w at cb (own_width tree w at cb)).content
-block-held tree w at cb e =
+pub block-clamped : (tree : BoxTree) (w : World) (at : ℕ) (cb : ℤ) → placing_of tree at ≡ block_flow
+    → (widths tree w at cb).content ≡ clamped_width tree w at cb (block_terms tree w at cb (own_width tree w at cb)).content
+block-clamped tree w at cb e =
     ap (λ (t : Widths ℤ). t.content) (widths-placed tree w at cb block_flow e)
-    ∙ held-content (block_terms tree w at cb) (own_maximum tree w at cb) (own_minimum tree w at cb) (block_terms tree w at cb (own_width tree w at cb)) (λ width. refl)
+    ∙ clamped-content (block_terms tree w at cb) (own_maximum tree w at cb) (own_minimum tree w at cb) (block_terms tree w at cb (own_width tree w at cb)) (λ width. refl)
 
-pub shrunk-held : (tree : BoxTree) (w : World) (at : ℕ) (cb : ℤ) → placing_of tree at ≡ shrunk
-    → (widths tree w at cb).content ≡ held_width tree w at cb (shrunk_terms tree w at cb (own_width tree w at cb)).content
-shrunk-held tree w at cb e =
+pub shrunk-clamped : (tree : BoxTree) (w : World) (at : ℕ) (cb : ℤ) → placing_of tree at ≡ shrunk
+    → (widths tree w at cb).content ≡ clamped_width tree w at cb (shrunk_terms tree w at cb (own_width tree w at cb)).content
+shrunk-clamped tree w at cb e =
     ap (λ (t : Widths ℤ). t.content) (widths-placed tree w at cb shrunk e)
-    ∙ held-content (shrunk_terms tree w at cb) (own_maximum tree w at cb) (own_minimum tree w at cb) (shrunk_terms tree w at cb (own_width tree w at cb)) (λ width. refl)
+    ∙ clamped-content (shrunk_terms tree w at cb) (own_maximum tree w at cb) (own_minimum tree w at cb) (shrunk_terms tree w at cb (own_width tree w at cb)) (λ width. refl)

@@ -9,11 +9,11 @@ use Rattle.viz_base.specs.declared.renderings.Quad.{Quad}
 use Rattle.viz_base.proofs.ListLemmas.{all_append, all_parts}
 use Rattle.layout_semantics.specs.Floats.{FloatBox, band_at}
 use Rattle.layout_semantics.specs.InlineContent.{Item, start, finish, word, space, atomic, forced, float, content, float_boxes, makes_line}
-use Rattle.layout_semantics.specs.Stretches.{stretches, is_break, may_part}
+use Rattle.layout_semantics.specs.Segments.{segments, is_break, may_part}
 use Rattle.layout_semantics.specs.LineHeights.{InlineContext, height_of_extent, line_extent, extended_boxes, extent_in_line, strut, tallest}
-use Rattle.layout_semantics.specs.LineFilling.{Met, Line, joined, first_items, place_each, met_after, stretches_held, width_held, before_line}
+use Rattle.layout_semantics.specs.LineFilling.{Met, Line, joined, first_items, place_each, met_after, segments_held, width_held, before_line}
 use Rattle.layout_semantics.specs.Fragments.{float_entries, line_entries}
-use Rattle.layout_semantics.specs.Lines.{LaidLines, followed, laid_none, before_all, opened_after, next_line, laid_line, laid_no_line, laid_stretches, lines_to, lines_in, line_box, set_line, content_left}
+use Rattle.layout_semantics.specs.Lines.{LaidLines, followed, laid_none, before_all, opened_after, next_line, laid_line, laid_no_line, laid_segments, lines_to, lines_in, line_box, set_line, content_left}
 use Rattle.layout_laws.specs.LineStacks.{line_rectangles, IsStack, HasMoreFloats}
 use Rattle.layout_laws.proofs.Greatest.{All-from, greatest_from-fewer}
 use Rattle.layout_laws.proofs.Cuts.{cut-joined}
@@ -56,10 +56,10 @@ parts-of : (c : InlineContext) (parts : List (List Item)) → OfContent c (exten
 parts-of c [] a = tt
 parts-of c (part ∷ parts) a = let both = all_parts (Contains (all_boxes c)) (extended_boxes part) (extended_boxes (joined parts)) (subst (OfContent c) (extended-append part (joined parts)) a) in (both.0, parts-of c parts both.1)
 
-stretches-of : (c : InlineContext) → PartsOf c (stretches c.tree (content c.tree c.container))
-stretches-of c =
+segments-of : (c : InlineContext) → PartsOf c (segments c.tree (content c.tree c.container))
+segments-of c =
     let items = content c.tree c.container in
-    parts-of c (stretches c.tree items) (subst (λ l. OfContent c (extended_boxes l)) (sym (cut-joined (is_break (may_part c.tree)) [] items)) (members (all_boxes c)))
+    parts-of c (segments c.tree items) (subst (λ l. OfContent c (extended_boxes l)) (sym (cut-joined (is_break (may_part c.tree)) [] items)) (members (all_boxes c)))
 
 taken-of : (c : InlineContext) (n : ℕ) (parts : List (List Item)) → PartsOf c parts → OfContent c (extended_boxes (joined (take n parts)))
 taken-of c zero parts a = tt
@@ -157,9 +157,9 @@ laid_no_line-holds c y least floats l items h of =
       more = each-more c least now.least now.y floats (record { spots = []; floats = now.floats; waiting = [] }) (float_boxes items) h.least_more h.more;
     }
 
-laid_stretches-holds : (c : InlineContext) (y least : ℤ) (floats : List FloatBox) (l : LaidLines) (line : Line) (n : ℕ)
-    → Holds c y least floats l → l.after.y ≤ℤ line.top → least ≤ℤ line.least → PartsOf c line.parts → HasMoreFloats least floats line.before.floats → Holds c y least floats (followed l (laid_stretches c l.after line n))
-laid_stretches-holds c y least floats l line n h order low parts more = by (list_any (makes_line c.tree) (first_items line n))
+laid_segments-holds : (c : InlineContext) (y least : ℤ) (floats : List FloatBox) (l : LaidLines) (line : Line) (n : ℕ)
+    → Holds c y least floats l → l.after.y ≤ℤ line.top → least ≤ℤ line.least → PartsOf c line.parts → HasMoreFloats least floats line.before.floats → Holds c y least floats (followed l (laid_segments c l.after line n))
+laid_segments-holds c y least floats l line n h order low parts more = by (list_any (makes_line c.tree) (first_items line n))
     (laid_line-holds c y least floats l line (first_items line n) (met_after c line n) h order of (met-more c least line n floats low more))
     (laid_no_line-holds c y least floats l (first_items line n) h of)
   where
@@ -179,11 +179,11 @@ lines-hold (suc lines) c y least floats l [] h of = subst (λ es. Holds c y leas
 lines-hold (suc lines) c y least floats l (first ∷ parts) h of =
     let now = l.after in
     let line = next_line c (tallest c) now first (first ∷ parts) in
-    let n = stretches_held c line in
+    let n = segments_held c line in
     let met = place_each c now.least now.y (record { spots = []; floats = now.floats; waiting = [] }) (float_boxes (before_line c.tree first)) in
     let more = each-more c least now.least now.y floats (record { spots = []; floats = now.floats; waiting = [] }) (float_boxes (before_line c.tree first)) h.least_more h.more in
-    let next = laid_stretches-holds c y least floats l line n h (line_top-stands c met.floats now.y (tallest c) (width_held c first)).0 h.least_more of more in
-    let one = laid_stretches c now line n in
+    let next = laid_segments-holds c y least floats l line n h (line_top-stands c met.floats now.y (tallest c) (width_held c first)).0 h.least_more of more in
+    let one = laid_segments c now line n in
     let rest = lines_to lines c (tallest c) one.after (drop n (first ∷ parts)) in
     subst (λ es. Holds c y least floats (record { after = rest.after; entries = es })) (append_assoc l.entries one.entries rest.entries)
     (lines-hold lines c y least floats (followed l one) (drop n (first ∷ parts)) next (dropped-of c n (first ∷ parts) of))
@@ -195,7 +195,7 @@ pub record LinesHold (c : InlineContext) (y least : ℤ) (floats : List FloatBox
 
 pub lines-in-hold : (c : InlineContext) (y least : ℤ) (floats : List FloatBox) → LinesHold c y least floats
 lines-in-hold c y least floats =
-    let parts = stretches c.tree (content c.tree c.container) in
+    let parts = segments c.tree (content c.tree c.container) in
     let start = laid_none (before_all y least floats) in
-    let h = lines-hold (length parts) c y least floats start parts (record { stacked = refl; low = tt; opened = tt; least_more = omega (arith, ints); more = more-none least floats }) (stretches-of c) in
+    let h = lines-hold (length parts) c y least floats start parts (record { stacked = refl; low = tt; opened = tt; least_more = omega (arith, ints); more = more-none least floats }) (segments-of c) in
     record { stacked = h.stacked; low = h.low; more = h.more }

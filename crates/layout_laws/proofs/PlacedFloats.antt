@@ -10,10 +10,10 @@ use Rattle.viz_base.specs.declared.styles.Side.TheVariants as of_side
 use Rattle.viz_base.proofs.ListLemmas.{later_member}
 use Rattle.layout_semantics.specs.Floats.{FloatBox, Floating, float_top, with_float, placed_float, float_at}
 use Rattle.layout_semantics.specs.InlineContent.{Item, content, float_boxes, makes_line}
-use Rattle.layout_semantics.specs.Stretches.{stretches}
+use Rattle.layout_semantics.specs.Segments.{segments}
 use Rattle.layout_semantics.specs.LineHeights.{InlineContext, line_extent, height_of_extent, extended_boxes, tallest}
-use Rattle.layout_semantics.specs.LineFilling.{Met, Line, line_float, line_spot, with_spot, with_waiting, place_each, none_waits, leaves_room, meet, met_after, floats_met, first_items, width_held, stretches_held, before_line}
-use Rattle.layout_semantics.specs.Lines.{SoFar, LaidLines, before_all, next_line, laid_line, laid_no_line, laid_stretches, lines_to, lines_in}
+use Rattle.layout_semantics.specs.LineFilling.{Met, Line, line_float, line_spot, with_spot, with_waiting, place_each, none_waits, leaves_room, meet, met_after, floats_met, first_items, width_held, segments_held, before_line}
+use Rattle.layout_semantics.specs.Lines.{SoFar, LaidLines, before_all, next_line, laid_line, laid_no_line, laid_segments, lines_to, lines_in}
 use Rattle.layout_laws.specs.FloatRules.{ObeysRules}
 use Rattle.layout_laws.proofs.Members.{first_member}
 use Rattle.layout_laws.proofs.Apart.{apart}
@@ -56,7 +56,7 @@ module _ (c : InlineContext) (before : List FloatBox) where
     met_placed zero h = h
     met_placed (suc n) h = meet_all (width_held c (first_items line (suc n))) (met_after c line n) (floats_met c.tree n (slice_index_or line.parts n [])) (met_placed n h)
 
-    after_placed : (now : SoFar) (n : ℕ) → Placed now.floats → Placed line.before.floats → Placed (laid_stretches c now line n).after.floats
+    after_placed : (now : SoFar) (n : ℕ) → Placed now.floats → Placed line.before.floats → Placed (laid_segments c now line n).after.floats
     after_placed now n h b = by (list_any (makes_line c.tree) (first_items line n))
         (let items = first_items line n in let met = met_after c line n in
         each (int_max now.least line.top) (line.top +ℤ height_of_extent (line_extent c (now.opened ++ extended_boxes items))) (record met { waiting = [] }) met.waiting (met_placed n b))
@@ -73,12 +73,12 @@ module _ (c : InlineContext) (before : List FloatBox) where
   lines_placed (suc lines) now [] h = h
   lines_placed (suc lines) now (first ∷ parts) h =
       let line = next_line c (tallest c) now first (first ∷ parts) in
-      let n = stretches_held c line in
-      lines_placed lines (laid_stretches c now line n).after (drop n (first ∷ parts))
+      let n = segments_held c line in
+      lines_placed lines (laid_segments c now line n).after (drop n (first ∷ parts))
       (after_placed line now n h (each now.least now.y (record { spots = []; floats = now.floats; waiting = [] }) (float_boxes (before_line c.tree first)) h))
 
 pub of_lines : (c : InlineContext) (y least : ℤ) (floats : List FloatBox) → ArePlacedAfter floats (lines_in c y least floats).floats
-of_lines c y least floats = lines_placed c floats (length (stretches c.tree (content c.tree c.container))) (before_all y least floats) (stretches c.tree (content c.tree c.container)) none
+of_lines c y least floats = lines_placed c floats (length (segments c.tree (content c.tree c.container))) (before_all y least floats) (segments c.tree (content c.tree c.container)) none
 
 -- ---- floats that are placed so are clear of those before them
 

@@ -19,7 +19,7 @@ use Rattle.layout_semantics.specs.Horizontal.{widths}
 use Rattle.layout_semantics.specs.Verticals.{verticals}
 use Rattle.layout_semantics.specs.Replaced.{replaced_size}
 use Rattle.layout_semantics.specs.FlowBoxes.{is_replaced_at, is_open_above, content_from}
-use Rattle.layout_semantics.specs.Flow.{Progress, fresh, flow_to, content_height, context_height, whole_alone}
+use Rattle.layout_semantics.specs.Flow.{Progress, fresh, flow_to, content_height, context_height, whole_independent}
 use Rattle.layout_semantics.specs.Page.{page_rendering}
 use Rattle.layout_semantics.proofs.Pages.{forest, page-distinct}
 use Rattle.layout_semantics.proofs.Orders.{document_order-is}
@@ -82,17 +82,17 @@ module _ (tree : BoxTree) (w : World) (plain : HasPlainBlocks tree) where
 
   abbrev rendered : List BoxNode → Rendering ℤ
   rendered [] = record { boxes = [] }
-  rendered (root ∷ rest) = record { boxes = (whole_alone tree w 0 (pos (64 * w.w))).boxes }
+  rendered (root ∷ rest) = record { boxes = (whole_independent tree w 0 (pos (64 * w.w))).boxes }
 
   root-traced : 0 < length tree.boxes → IsTrace tree w (flow_to tree w (length tree.boxes)) (trace_to tree w (length tree.boxes)) 0 (content_from (pos 0) root_frame.x) (content_top root_frame) (fresh (content_top root_frame))
   root-traced l = flow-traced tree w plain (length tree.boxes) 0 (content_from (pos 0) root_frame.x) (content_top root_frame) root_frame.corner.y (fresh (content_top root_frame)) false l (omega arith) refl refl
 
-  root-boxes : 0 < length tree.boxes → (whole_alone tree w 0 (pos (64 * w.w))).boxes ≡ root_entry ∷ entries_in root_content
+  root-boxes : 0 < length tree.boxes → (whole_independent tree w 0 (pos (64 * w.w))).boxes ≡ root_entry ∷ entries_in root_content
   unfolding room
   root-boxes l = by_sort (is_replaced_at tree 0) refl (root-traced l)
     where
       by_sort : (r : Bool) → is_replaced_at tree 0 ≡ r → IsTrace tree w (flow_to tree w (length tree.boxes)) (trace_to tree w (length tree.boxes)) 0 (content_from (pos 0) root_frame.x) (content_top root_frame) (fresh (content_top root_frame))
-          → (whole_alone tree w 0 (pos (64 * w.w))).boxes ≡ root_entry ∷ entries_in root_content
+          → (whole_independent tree w 0 (pos (64 * w.w))).boxes ≡ root_entry ∷ entries_in root_content
       by_sort true e t =
           let none = map_none tree w root_content (t.order ∙ ap (flat_map (document_order tree.boxes)) (replaced_holds_none tree 0 e)) in
           rw (none, e)
@@ -243,9 +243,9 @@ module _ (tree : BoxTree) (w : World) (plain : HasPlainBlocks tree) where
       by_part (inl s) = next-at false a outer s.1 before b passed c after upper lower j k e n t
       by_part (inr s) = next-at (is_open_above tree a) a outer s before b passed c after upper lower j k e n t
 
-  root-stands-alone : (outer : Placed ℤ) (i : IsEntryOf tree w 0 outer) → Stands trace 0 outer false
+  root-stands-independent : (outer : Placed ℤ) (i : IsEntryOf tree w 0 outer) → Stands trace 0 outer false
   unfolding Stands
-  root-stands-alone outer i =
+  root-stands-independent outer i =
       let page = stands 0 outer i in
       subst (λ (p : Placed ℤ). KidsStand tree w trace 0 (content_of p) p.content.top p.border.top false) (only_one 0 page.root outer page.root_in (is_in 0 outer i)) page.root_stands
 
@@ -265,7 +265,7 @@ module _ (tree : BoxTree) (w : World) (plain : HasPlainBlocks tree) where
       → kids_of tree.boxes a ≡ passed ++ c ∷ after → IsTrue (list_all (collapses tree w) passed) → (a ≡ 0) ⊎ (is_open_above tree a ≡ false)
       → lower.border.top ≡ outer.content.top +ℤ collapsed (flat_map (all_margins tree w (content_of outer)) passed ++ leading tree w (content_of outer) c)
   parted-law a c passed after outer lower i j e t (inl root) =
-      first-at false a outer (subst (λ (x : ℕ). IsEntryOf tree w x outer → Stands trace x outer false) (sym root) (root-stands-alone outer) i) passed c after lower j e t
+      first-at false a outer (subst (λ (x : ℕ). IsEntryOf tree w x outer → Stands trace x outer false) (sym root) (root-stands-independent outer) i) passed c after lower j e t
   parted-law a c passed after outer lower i j e t (inr o) = by_part (root-or-other a outer i)
     where
       at : ℤ → ℤ → Bool → ℤ

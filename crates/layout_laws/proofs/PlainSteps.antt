@@ -10,7 +10,7 @@ use Rattle.layout_semantics.specs.Order.{kids_of}
 use Rattle.layout_semantics.specs.Margins.{collapsed}
 use Rattle.layout_semantics.specs.Rectangles.{Frame, content_top, placed_box}
 use Rattle.layout_semantics.specs.Replaced.{replaced_size}
-use Rattle.layout_semantics.specs.FlowBoxes.{is_replaced_at, is_context_root, is_open_above, is_open_below, may_collapse_through, joins_last_child, across, content_from, content_band}
+use Rattle.layout_semantics.specs.FlowBoxes.{is_replaced_at, is_context_root, is_open_above, is_open_below, may_collapse_through, joins_last_child, inline_size, content_from, content_band}
 use Rattle.layout_semantics.specs.DefiniteHeights.{has_auto_height, has_no_minimum, own_height}
 use Rattle.layout_semantics.specs.InlineContent.{is_zero, has_line}
 use Rattle.layout_semantics.specs.Lengths.{borders, paddings}
@@ -138,7 +138,7 @@ module _ (tree : BoxTree) (w : World) (inside : ℕ → Band ℤ → ℤ → Pro
 
   -- the height of its content
   abbrev pub inner_height : Band ℤ → Progress → ℕ → Frame → (replaced context : Bool) → ℤ
-  inner_height cb p k f true context = (replaced_size tree w k (across cb)).height
+  inner_height cb p k f true context = (replaced_size tree w k (inline_size cb)).height
   inner_height cb p k f false true = content_height tree w k (context_height tree w (content_top f) (inner cb p k f true))
   inner_height cb p k f false false = content_height tree w k (block_height tree w (joins_last_child tree k) (content_top f) (inner cb p k f false).standing)
 

@@ -9,7 +9,7 @@ use Rattle.viz_base.specs.declared.worlds.World.{World}
 use Rattle.layout_semantics.specs.Order.{kids_of, roots, IsOnPage}
 use Rattle.layout_semantics.specs.Blocks.{kind_of, parent_of}
 use Rattle.layout_semantics.specs.Horizontal.{widths}
-use Rattle.layout_semantics.specs.FlowBoxes.{across, content_band, room_inside, room_to, room}
+use Rattle.layout_semantics.specs.FlowBoxes.{inline_size, content_band, room_inside, room_to, room}
 use Rattle.layout_semantics.proofs.Forest.{IsKid}
 use Rattle.layout_semantics.proofs.Pages.{forest, root-alone, root_place, Each-contains}
 
@@ -43,12 +43,12 @@ module _ (tree : BoxTree) (w : World) where
       let after = k.after in
       kid-room kid up kid k ∙ ap (room_inside tree w up) (room-enough kid (suc up) up page (omega arith) (omega arith))
 
-  band-across : (cb : Band ℤ) (b : ℕ) → across (content_band tree w cb b) ≡ (widths tree w b (across cb)).content
-  band-across cb b = let x = widths tree w b (across cb) in omega (arith, ints)
+  band-inline_size : (cb : Band ℤ) (b : ℕ) → inline_size (content_band tree w cb b) ≡ (widths tree w b (inline_size cb)).content
+  band-inline_size cb b = let x = widths tree w b (inline_size cb) in omega (arith, ints)
 
-  pub band-room : (cb : Band ℤ) (up kid : ℕ) → IsOnPage tree.boxes up → Contains (kids_of tree.boxes up) kid → is_inline (kind_of tree up) ≡ false → across cb ≡ room tree w up
-      → across (content_band tree w cb up) ≡ room tree w kid
+  pub band-room : (cb : Band ℤ) (up kid : ℕ) → IsOnPage tree.boxes up → Contains (kids_of tree.boxes up) kid → is_inline (kind_of tree up) ≡ false → inline_size cb ≡ room tree w up
+      → inline_size (content_band tree w cb up) ≡ room tree w kid
   band-room cb up kid page c inline e =
-      band-across cb up
+      band-inline_size cb up
       ∙ (ap (λ (around : ℤ). (widths tree w up around).content) e
       ∙ sym (room-by-parent up kid page c ∙ ap (λ (b : Bool). cond b (room tree w up) (widths tree w up (room tree w up)).content) inline))

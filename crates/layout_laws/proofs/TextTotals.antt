@@ -62,16 +62,16 @@ item-boxes : (items : List Item) (x : Item) → sum_by letters (boxes_at items x
 unfolding chars
 item-boxes items x = by_run (begins_run x) x.run
   where
-    alone : sum_by letters (own_box items x ∷ []) ≤ item_letters x
-    alone =
+    independent : sum_by letters (own_box items x ∷ []) ≤ item_letters x
+    independent =
         let one = sum_by-cons letters (own_box items x) [] in
         let own = own-letters items x in
         omega (arith, one, own)
 
     by_run : (b : Bool) (run : Option (List ℕ)) → sum_by letters (with_anonymous items x b run) ≤ item_letters x
-    by_run true (Some run) = alone
-    by_run true None = alone
-    by_run false run = alone
+    by_run true (Some run) = independent
+    by_run true None = independent
+    by_run false run = independent
 
 -- ---- from parts to nodes
 

@@ -136,8 +136,8 @@ module _ (nodes : List Node) (styles : List Style) (page : IsPage nodes) where
       let arranged = page_arranged nodes styles page in
       let node = root_node x i e in
       let none : boxes_before (items_of (page_parts nodes styles)) (node_of x) ≡ 0 = before_none 0 (items_of (page_parts nodes styles)) (node_of x) arranged.rises (omega (arith, node)) in
-      let alone : begins_run x ≡ false = ap (λ (o : Option (List ℕ)). option_map_or (λ run. first_of run == node_of x) o false) (no_run x i e x.run refl) in
-      own_place_is (items_of (page_parts nodes styles)) arranged x i ∙ (ap (λ (b : Bool). boxes_before (items_of (page_parts nodes styles)) (node_of x) + (if b then 1 else 0)) alone ∙ omega (arith, none))
+      let independent : begins_run x ≡ false = ap (λ (o : Option (List ℕ)). option_map_or (λ run. first_of run == node_of x) o false) (no_run x i e x.run refl) in
+      own_place_is (items_of (page_parts nodes styles)) arranged x i ∙ (ap (λ (b : Bool). boxes_before (items_of (page_parts nodes styles)) (node_of x) + (if b then 1 else 0)) independent ∙ omega (arith, none))
 
   outer_is_none : (p : Part) (run : Option (List ℕ)) → outer_place (items_of (page_parts nodes styles)) (record { part = p; run = run }) ≡ None → p.parent ≡ None
   outer_is_none p (Some run) e = absurd (cc)

@@ -55,7 +55,7 @@ meets-all c line held met (k ∷ ks) =
     meets-all c line held (meet c line held met k) ks
     ∙ (ap (λ l. l ++ ks) (one-more c met.spots met.floats met.waiting k spot (leaves_room c line held met k spot)) ∙ append_assoc (all_met met) (k ∷ []) ks)
 
--- ---- the floats of the first stretches of a line
+-- ---- the floats of the first segments of a line
 
 joined-more : (n : ℕ) (parts : List (List Item)) → n < length parts → joined (take (suc n) parts) ≡ joined (take n parts) ++ slice_index_or parts n []
 joined-more n [] l = absurd (omega arith)
@@ -70,7 +70,7 @@ front-and-rest {A} (suc n) (x ∷ xs) = ap (λ (l : List A). x ∷ l) (front-and
 pub split-line : (tree : BoxTree) (items : List Item) → before_line tree items ++ from_line_on tree items ≡ items
 split-line tree items = front-and-rest (position_or_len (makes_line tree) items) items
 
--- the floats of the first stretches are placed or wait, where those before anything on the line are placed
+-- the floats of the first segments are placed or wait, where those before anything on the line are placed
 pub met-all : (c : InlineContext) (line : Line) (first : List Item) (parts : List (List Item)) → line.parts ≡ first ∷ parts → all_met line.before ≡ flat_map float_of (before_line c.tree first)
     → (n : ℕ) → suc n ≤ length line.parts → all_met (met_after c line (suc n)) ≡ flat_map float_of (first_items line (suc n))
 met-all c line first parts e placed zero l =

@@ -7,7 +7,7 @@ use Rattle.std.proofs.lemmas.List.{reverse-reverse}
 use Rattle.std.proofs.lemmas.Bool.{or_parts}
 use Rattle.viz_base.specs.declared.trees.BoxTree.{BoxTree}
 use Rattle.layout_semantics.specs.InlineContent.{Item, start, finish, word, space, atomic, forced, float, makes_line}
-use Rattle.layout_semantics.specs.Stretches.{without_leading, what_stays}
+use Rattle.layout_semantics.specs.Segments.{without_leading, what_stays}
 
 abbrev pub inner_of : Item → List ℕ
 inner_of (float at) = at ∷ []
@@ -75,9 +75,9 @@ floats-stay items = stays-kept float_of float-short (λ at. refl) items
 
 -- ---- where nothing makes a line, floats are all that stand in it
 
-pub floats-alone : (tree : BoxTree) (items : List Item) → list_any (makes_line tree) items ≡ false → flat_map inner_of items ≡ flat_map float_of items
-floats-alone tree [] e = refl
-floats-alone tree (i ∷ items) e = by_item i (or_parts (makes_line tree i) (list_any (makes_line tree) items) e).0 (floats-alone tree items (or_parts (makes_line tree i) (list_any (makes_line tree) items) e).1)
+pub floats-independent : (tree : BoxTree) (items : List Item) → list_any (makes_line tree) items ≡ false → flat_map inner_of items ≡ flat_map float_of items
+floats-independent tree [] e = refl
+floats-independent tree (i ∷ items) e = by_item i (or_parts (makes_line tree i) (list_any (makes_line tree) items) e).0 (floats-independent tree items (or_parts (makes_line tree i) (list_any (makes_line tree) items) e).1)
   where
     by_item : (i : Item) → makes_line tree i ≡ false → flat_map inner_of items ≡ flat_map float_of items → inner_of i ++ flat_map inner_of items ≡ float_of i ++ flat_map float_of items
     by_item (start at) n again = again

@@ -12,15 +12,15 @@ use Rattle.viz_base.specs.declared.trees.Kind.{Kind}
 use Rattle.layout_semantics.specs.Lists.{one_if}
 use Rattle.layout_semantics.specs.Floats.{FloatBox, band_at}
 use Rattle.layout_semantics.specs.InlineContent.{Item, start, finish, word, space, atomic, forced, float, content, float_boxes, makes_line}
-use Rattle.layout_semantics.specs.Stretches.{stretches, is_break, may_part, what_stays}
+use Rattle.layout_semantics.specs.Segments.{segments, is_break, may_part, what_stays}
 use Rattle.layout_semantics.specs.LineHeights.{InlineContext, line_extent, extended_boxes, height_of_extent, tallest}
-use Rattle.layout_semantics.specs.LineFilling.{Met, Line, item_width, width_held, place_each, joined, first_items, before_line, met_after, may_hold, stretches_held}
+use Rattle.layout_semantics.specs.LineFilling.{Met, Line, item_width, width_held, place_each, joined, first_items, before_line, met_after, may_hold, segments_held}
 use Rattle.layout_semantics.specs.Fragments.{ItemPlace, SetLine, set_out, is_text_of, text_fragment, text_right, text_entry, inline_fragment, opened_entries, entries_after, line_entries, float_entries, spots_after, atomic_entry}
-use Rattle.layout_semantics.specs.Lines.{SoFar, LaidLines, before_all, next_line, content_left, set_line, laid_line, laid_no_line, laid_stretches, lines_to, lines_in}
+use Rattle.layout_semantics.specs.Lines.{SoFar, LaidLines, before_all, next_line, content_left, set_line, laid_line, laid_no_line, laid_segments, lines_to, lines_in}
 use Rattle.layout_laws.specs.Entries.{named_by, is_whole}
 use Rattle.layout_laws.proofs.Prefixes.{prefix-within}
 use Rattle.layout_laws.proofs.Cuts.{cut-joined}
-use Rattle.layout_laws.proofs.WholeItems.{inner_of, float_of, inner-stay, floats-stay, floats-alone}
+use Rattle.layout_laws.proofs.WholeItems.{inner_of, float_of, inner-stay, floats-stay, floats-independent}
 use Rattle.layout_laws.proofs.WholeFloats.{numbers, all_met, place-all, first-met, met-all}
 
 module _ (of_box : ℕ → List (Kind × ℕ)) where
@@ -112,11 +112,11 @@ module _ (of_box : ℕ → List (Kind × ℕ)) where
   laid_no_line-shown c now items n =
       let start : Met = record { spots = []; floats = now.floats; waiting = [] } in
       let met = place_each c now.least now.y start (float_boxes items) in
-      floats-shown met.spots ∙ ap (flat_map of_box) (place-all c now.least now.y start (float_boxes items) ∙ sym (floats-alone c.tree items n))
+      floats-shown met.spots ∙ ap (flat_map of_box) (place-all c now.least now.y start (float_boxes items) ∙ sym (floats-independent c.tree items n))
 
-  laid_stretches-shown : (c : InlineContext) (now : SoFar) (line : Line) (first : List Item) (parts : List (List Item)) (n : ℕ) → line.parts ≡ first ∷ parts → all_met line.before ≡ flat_map float_of (before_line c.tree first)
-      → suc n ≤ length line.parts → all_shown (laid_stretches c now line (suc n)).entries ≡ all_inner (first_items line (suc n))
-  laid_stretches-shown c now line first parts n e placed l = by (list_any (makes_line c.tree) (first_items line (suc n))) refl
+  laid_segments-shown : (c : InlineContext) (now : SoFar) (line : Line) (first : List Item) (parts : List (List Item)) (n : ℕ) → line.parts ≡ first ∷ parts → all_met line.before ≡ flat_map float_of (before_line c.tree first)
+      → suc n ≤ length line.parts → all_shown (laid_segments c now line (suc n)).entries ≡ all_inner (first_items line (suc n))
+  laid_segments-shown c now line first parts n e placed l = by (list_any (makes_line c.tree) (first_items line (suc n))) refl
     where
       items : List Item
       items = first_items line (suc n)
@@ -139,11 +139,11 @@ module _ (of_box : ℕ → List (Kind × ℕ)) where
   lines-shown (suc k) c now (first ∷ parts) l =
       let all = first ∷ parts in
       let line = next_line c (tallest c) now first all in
-      let n = stretches_held c line in
+      let n = segments_held c line in
       let most = prefix-within (may_hold c line) 2 (length line.parts - 1) in
       let left = length-drop n all in
-      let one = laid_stretches-shown c now line first parts (prefix_len (may_hold c line) (range_with_len 2 (length line.parts - 1))) refl (first-met c now.least now.y now.floats (float_boxes (before_line c.tree first))) (omega arith) in
-      let laid = laid_stretches c now line n in
+      let one = laid_segments-shown c now line first parts (prefix_len (may_hold c line) (range_with_len 2 (length line.parts - 1))) refl (first-met c now.least now.y now.floats (float_boxes (before_line c.tree first))) (omega arith) in
+      let laid = laid_segments c now line n in
       both-shown laid.entries (lines_to k c (tallest c) laid.after (drop n all)).entries (all_inner (joined (take n all))) (all_inner (joined (drop n all))) one (lines-shown k c laid.after (drop n all) (omega arith))
       ∙ rejoined n all
     where
@@ -154,5 +154,5 @@ module _ (of_box : ℕ → List (Kind × ℕ)) where
 
   pub content-shown : (c : InlineContext) (y least : ℤ) (floats : List FloatBox) → all_shown (lines_in c y least floats).entries ≡ all_inner (content c.tree c.container)
   content-shown c y least floats =
-      let parts = stretches c.tree (content c.tree c.container) in
+      let parts = segments c.tree (content c.tree c.container) in
       lines-shown (length parts) c (before_all y least floats) parts (omega arith) ∙ ap all_inner (cut-joined (is_break (may_part c.tree)) [] (content c.tree c.container))

@@ -17,18 +17,18 @@ use Rattle.viz_base.proofs.ListLemmas.{all_append}
 use Rattle.layout_semantics.specs.Lists.{one_if}
 use Rattle.layout_semantics.specs.Order.{kids_of, page_order}
 use Rattle.layout_semantics.specs.Blocks.{kind_of}
-use Rattle.layout_semantics.specs.FlowBoxes.{across}
+use Rattle.layout_semantics.specs.FlowBoxes.{inline_size}
 use Rattle.layout_semantics.specs.InlineContent.{Item, start, finish, word, atomic, forced, float, Sort, a_float, an_atomic, a_break, a_text, an_inline, sort_of, text_of, text_items, character_before, letter_before, items_to, content, float_boxes, is_floated_at, holds_inline, has_line, makes_line}
 use Rattle.layout_semantics.specs.LineHeights.{InlineContext}
 use Rattle.layout_semantics.specs.Lines.{LineList, lines_in}
-use Rattle.layout_semantics.specs.Flow.{Progress, alone, entry_boxes, inline_context, line_content}
+use Rattle.layout_semantics.specs.Flow.{Progress, independent, entry_boxes, inline_context, line_content}
 use Rattle.layout_semantics.specs.Page.{page_rendering}
 use Rattle.layout_semantics.proofs.Forest.{IsKid}
 use Rattle.layout_semantics.proofs.Pages.{forest}
 use Rattle.layout_laws.specs.Entries.{named_by, name_of, is_whole}
-use Rattle.layout_laws.proofs.Flowing.{Fills, entries, of_entry, all_of, all_of-is, alone-entries, entries-shifted}
+use Rattle.layout_laws.proofs.Flowing.{Fills, entries, of_entry, all_of, all_of-is, independent-entries, entries-shifted}
 use Rattle.layout_laws.proofs.Entries.{IsFlow, page-entries}
-use Rattle.layout_laws.proofs.WholeItems.{inner_of, floats-alone}
+use Rattle.layout_laws.proofs.WholeItems.{inner_of, floats-independent}
 use Rattle.layout_laws.proofs.WholeLines.{shown, content-shown}
 use Rattle.layout_laws.proofs.Levels.{sort_by}
 
@@ -185,10 +185,10 @@ module _ (tree : BoxTree) (w : World) where
 
   flow-by : (b : ℕ) (holds : Bool) → (holds && list_any (makes_line tree) (content tree b)) ≡ false → IsFlowBy b holds
   flow-by b true e =
-      let alone_floats = floats-alone tree (content tree b) e in
+      let independent_floats = floats-independent tree (content tree b) e in
       record {
-        same = ap (flat_map every) (sym alone_floats) ∙ content-all b;
-        inside = subst (AllByRecursion (λ k. (b < k) × (k < length tree.boxes))) alone_floats (after_low b (flat_map inner_of (content tree b)) (content-within b));
+        same = ap (flat_map every) (sym independent_floats) ∙ content-all b;
+        inside = subst (AllByRecursion (λ k. (b < k) × (k < length tree.boxes))) independent_floats (after_low b (flat_map inner_of (content tree b)) (content-within b));
       }
   flow-by b false e = record { same = refl; inside = kids_after b (kids_of tree.boxes b) ((forest tree).kids b) }
 
@@ -201,11 +201,11 @@ module _ (tree : BoxTree) (w : World) where
   module _ (inside : ℕ → Band ℤ → ℤ → Progress → Progress) (levels : ℕ) (fills : Fills tree w is_whole inside levels) where
     -- a float or an atomic box, laid out alone
     abbrev one_alone : Band ℤ → ℕ → List (Kind × ℕ)
-    one_alone cb k = entries tree w is_whole (alone tree w inside k (across cb)).boxes
+    one_alone cb k = entries tree w is_whole (independent tree w inside k (inline_size cb)).boxes
 
     entry-shown : (cb : Band ℤ) (e : Entry ℤ) → entries tree w is_whole (entry_boxes tree w inside cb e) ≡ shown (one_alone cb) e
     entry-shown cb (of_entry.Here p) = append-nil (one_if (is_whole p.kind) (named_by p))
-    entry-shown cb (of_entry.Goes k spot) = entries-shifted tree w is_whole spot (alone tree w inside k (across cb)).boxes
+    entry-shown cb (of_entry.Goes k spot) = entries-shifted tree w is_whole spot (independent tree w inside k (inline_size cb)).boxes
 
     entries-shown : (cb : Band ℤ) (es : List (Entry ℤ)) → entries tree w is_whole (flat_map (entry_boxes tree w inside cb) es) ≡ flat_map (shown (one_alone cb)) es
     entries-shown cb [] = refl
@@ -214,12 +214,12 @@ module _ (tree : BoxTree) (w : World) where
         ∙ (ap (λ (l : List (Kind × ℕ)). l ++ entries tree w is_whole (flat_map (entry_boxes tree w inside cb) es)) (entry-shown cb e)
         ∙ ap (λ (l : List (Kind × ℕ)). shown (one_alone cb) e ++ l) (entries-shown cb es))
 
-    alone-each : (cb : Band ℤ) (b : ℕ) (ks : List ℕ) → length tree.boxes ≤ suc levels + b → AllByRecursion (Within (suc b)) ks → flat_map (one_alone cb) ks ≡ flat_map every ks
-    alone-each cb b [] m a = refl
-    alone-each cb b (k ∷ ks) m a =
+    independent-each : (cb : Band ℤ) (b : ℕ) (ks : List ℕ) → length tree.boxes ≤ suc levels + b → AllByRecursion (Within (suc b)) ks → flat_map (one_alone cb) ks ≡ flat_map every ks
+    independent-each cb b [] m a = refl
+    independent-each cb b (k ∷ ks) m a =
         let above = a.0.0 in
-        ap (λ (l : List (Kind × ℕ)). l ++ flat_map (one_alone cb) ks) (alone-entries tree w is_whole inside levels fills k (across cb) a.0.1 (omega arith))
-        ∙ ap (λ (l : List (Kind × ℕ)). every k ++ l) (alone-each cb b ks m a.1)
+        ap (λ (l : List (Kind × ℕ)). l ++ flat_map (one_alone cb) ks) (independent-entries tree w is_whole inside levels fills k (inline_size cb) a.0.1 (omega arith))
+        ∙ ap (λ (l : List (Kind × ℕ)). every k ++ l) (independent-each cb b ks m a.1)
 
     lines-fill : (b : ℕ) (cb : Band ℤ) (top : ℤ) (p : Progress) → length tree.boxes ≤ suc levels + b
         → entries tree w is_whole (line_content tree w inside b cb top p).boxes ≡ entries tree w is_whole p.boxes ++ flat_map every (kids_of tree.boxes b)
@@ -230,7 +230,7 @@ module _ (tree : BoxTree) (w : World) where
         ∙ ap (λ (l : List (Kind × ℕ)). entries tree w is_whole p.boxes ++ l)
         (entries-shown cb l.entries
         ∙ (content-shown (one_alone cb) c top (unwrap_or p.least top) p.floats
-        ∙ (alone-each cb b (flat_map inner_of (content tree b)) m (content-within b) ∙ content-all b)))
+        ∙ (independent-each cb b (flat_map inner_of (content tree b)) m (content-within b) ∙ content-all b)))
 
   -- ---- the page
 

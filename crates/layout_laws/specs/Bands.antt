@@ -1,4 +1,4 @@
--- The stretch that floats leave of a containing block (CSS 2.1, 9.5), as relations.
+-- The segment that floats leave of a containing block (CSS 2.1, 9.5), as relations.
 use Rattle.std.specs.Prelude.{◌≡◌, ℤ, ◌+ℤ◌, ◌≤ℤ◌, ◌<ℤ◌, ◌⊎◌, false, List, IsTrue, Contains}
 use Rattle.viz_base.specs.declared.layouts.Band.{Band}
 use Rattle.layout_semantics.specs.Floats.{FloatBox, is_left}

@@ -68,6 +68,6 @@ shift_by_parent c at e = elim (at == c.container) [
       +ℤ shift c parent (inline_extent c.tree c.world (node_of c.tree parent))) (parent_of c.tree.boxes at) (pos 0)
 ]
 
--- the lines of so many stretches
+-- the lines of so many segments
 abbrev pub lines_of : InlineContext → SoFar → List (List Item) → LaidLines
 lines_of c now parts = lines_to (length parts) c (tallest c) now parts

@@ -6,26 +6,26 @@ use Rattle.layout_semantics.specs.Order.{kids_of}
 use Rattle.layout_semantics.specs.Lists.{table_of}
 use Rattle.layout_semantics.specs.Lengths.{total}
 use Rattle.layout_semantics.specs.InlineContent.{content, inner_boxes}
-use Rattle.layout_semantics.specs.Stretches.{stretches, pieces}
-use Rattle.layout_semantics.specs.Preferred.{preferred, outer_preferred, with_least, with_most, preferred_stretch, preferred_floats, as_children, block_widths}
+use Rattle.layout_semantics.specs.Segments.{segments, pieces}
+use Rattle.layout_semantics.specs.Preferred.{preferred, outer_preferred, with_least, with_most, preferred_segment, preferred_floats, as_children, block_widths}
 
 -- the outer preferred widths of boxes
 abbrev pub outer_widths : BoxTree → World → List ℕ → List (ℕ × Preferred ℤ)
 outer_widths tree w boxes = map (λ k. (k, outer_preferred tree w k (preferred tree w k))) boxes
 
--- of a box's inline content: the widths of the stretches that no line may break and of the floats
+-- of a box's inline content: the widths of the segments that no line may break and of the floats
 abbrev pub unbreakable_widths : BoxTree → World → ℕ → List ℤ
 unbreakable_widths tree w at =
-    map (preferred_stretch tree w
+    map (preferred_segment tree w
     (table_of (length tree.boxes) (with_least (outer_widths tree w (inner_boxes tree at)))))
-    (stretches tree (content tree at))
+    (segments tree (content tree at))
     ++ preferred_floats (table_of (length tree.boxes) (with_least (outer_widths tree w (inner_boxes tree at))))
     (content tree at)
 
 -- the widths of the pieces between forced breaks, each with its floats
 abbrev pub piece_widths : BoxTree → World → ℕ → List ℤ
 piece_widths tree w at =
-    map (λ piece. preferred_stretch tree w
+    map (λ piece. preferred_segment tree w
     (table_of (length tree.boxes) (with_most (outer_widths tree w (inner_boxes tree at)))) piece
     +ℤ total (preferred_floats (table_of (length tree.boxes) (with_most (outer_widths tree w (inner_boxes tree at))))
     piece)) (pieces (content tree at))

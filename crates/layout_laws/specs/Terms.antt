@@ -4,7 +4,7 @@ use Rattle.viz_base.specs.declared.styles.Style.{Style}
 use Rattle.viz_base.specs.declared.trees.BoxTree.{BoxTree}
 use Rattle.viz_base.specs.declared.worlds.World.{World}
 use Rattle.viz_base.specs.Styles.{nothing}
-use Rattle.layout_semantics.specs.Lengths.{used, used_unless_auto, maximum, held, own}
+use Rattle.layout_semantics.specs.Lengths.{used, used_unless_auto, maximum, clamped, own}
 use Rattle.layout_semantics.specs.Horizontal.{placing_of, block_flow, replaced_block}
 
 -- a block-level box in normal flow, replaced or not
@@ -22,6 +22,6 @@ own_maximum tree w at cb =
 abbrev pub own_minimum : BoxTree → World → ℕ → ℤ → ℤ
 own_minimum tree w at cb = used tree w (own tree at (λ (s : Style). s.min_width) nothing) cb
 
--- a width held by its maximum and its minimum
-abbrev pub held_width : BoxTree → World → ℕ → ℤ → ℤ → ℤ
-held_width tree w at cb width = held (own_maximum tree w at cb) (own_minimum tree w at cb) width
+-- a width clamped by its maximum and its minimum
+abbrev pub clamped_width : BoxTree → World → ℕ → ℤ → ℤ → ℤ
+clamped_width tree w at cb width = clamped (own_maximum tree w at cb) (own_minimum tree w at cb) width

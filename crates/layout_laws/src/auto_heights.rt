@@ -9,9 +9,9 @@ ghost use Rattle.layout_semantics.specs.Rectangles.{Frame, border_height};
 ghost use Rattle.layout_semantics.specs.Lines.{lines_in};
 ghost use Rattle.layout_semantics.specs.Flow.{Cleared, Progress, below, block_height, child, content_height, flow_step, inline_context, laid, laid_block, reached};
 
-/// A block with nothing in it has the height that its property gives, 0 where that is `auto`, held by its maximum and
-/// its minimum; so high is it from its top to its bottom border edge, with its borders and paddings (CSS 2.1, 10.6.3,
-/// 10.7).
+/// A block with nothing in it has the height that its property gives, 0 where that is `auto`, clamped by its maximum
+/// and its minimum; so high is it from its top to its bottom border edge, with its borders and paddings (CSS 2.1,
+/// 10.6.3, 10.7).
 pub fn an_empty_block_has_no_height()
     ensures { (tree : Tree) (w : World) (inside : ℕ → Band ℤ → ℤ → Progress
         → Progress) (cb : Band ℤ) (p : Progress) (b : ℕ) (cleared : Cleared) (f : Frame)

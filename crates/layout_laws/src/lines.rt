@@ -7,18 +7,18 @@ ghost use Rattle.layout_semantics.specs.Lines.{lines_in};
 ghost use Rattle.layout_semantics.specs.Floats.{FloatBox};
 ghost use Rattle.layout_semantics.specs.InlineContent.{content};
 ghost use Rattle.layout_semantics.specs.LineHeights.{InlineContext, extended_boxes, line_extent, height_of_extent, tallest};
-ghost use Rattle.layout_semantics.specs.LineFilling.{Line, may_hold, stretches_held, line_top};
+ghost use Rattle.layout_semantics.specs.LineFilling.{Line, may_hold, segments_held, line_top};
 
-/// A line holds one stretch at least, and else the most such that the first two, three and so on up to all of them
+/// A line holds one segment at least, and else the most such that the first two, three and so on up to all of them
 /// may stand on it (CSS 2.1, 9.4.2).
 pub fn a_line_holds_the_longest_beginning_that_fits()
-    ensures one { (c : InlineContext) (line : Line) → 1 ≤ stretches_held c line }
-    ensures each_fits { (c : InlineContext) (line : Line) (k : ℕ) → 2 ≤ k → k ≤ stretches_held c line
+    ensures one { (c : InlineContext) (line : Line) → 1 ≤ segments_held c line }
+    ensures each_fits { (c : InlineContext) (line : Line) (k : ℕ) → 2 ≤ k → k ≤ segments_held c line
         → IsTrue (may_hold c line k) }
     ensures within { (c : InlineContext) (line : Line) → 1 ≤ length line.parts
-        → stretches_held c line ≤ length line.parts }
+        → segments_held c line ≤ length line.parts }
     ensures longest { (c : InlineContext) (line : Line) (n : ℕ) → n ≤ length line.parts
-        → ((k : ℕ) → 2 ≤ k → k ≤ n → IsTrue (may_hold c line k)) → n ≤ stretches_held c line }
+        → ((k : ℕ) → 2 ≤ k → k ≤ n → IsTrue (may_hold c line k)) → n ≤ segments_held c line }
 {}
 
 /// Whichever boxes of its container's content stand on a line, it is no higher than the tallest line, in whose height
@@ -29,9 +29,9 @@ pub fn no_line_is_higher_than_the_tallest()
         → height_of_extent (line_extent c boxes) ≤ℤ tallest c }
 {}
 
-/// A line stands at the highest top, from where it begins, at which its first stretch fits beside the floats or no
+/// A line stands at the highest top, from where it begins, at which its first segment fits beside the floats or no
 /// float is met (CSS 2.1, 9.5).
-pub fn a_line_stands_as_high_as_its_first_stretch_fits()
+pub fn a_line_stands_as_high_as_its_first_segment_fits()
     ensures below { (c : InlineContext) (floats : List FloatBox) (y tall width : ℤ)
         → y ≤ℤ line_top c floats y tall width }
     ensures stands { (c : InlineContext) (floats : List FloatBox) (y tall width : ℤ)

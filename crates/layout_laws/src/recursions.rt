@@ -9,7 +9,7 @@ ghost use Rattle.layout_semantics.specs.Preferred.{preferred};
 ghost use Rattle.layout_semantics.specs.LineHeights.{InlineContext, LineExtent, shift, tallest};
 ghost use Rattle.layout_semantics.specs.Lines.{SoFar, laid_next, laid_none, go_on};
 ghost use Rattle.layout_semantics.specs.Blocks.{kind_of};
-ghost use Rattle.layout_semantics.specs.FlowBoxes.{across, block_band, content_band, room, room_inside};
+ghost use Rattle.layout_semantics.specs.FlowBoxes.{inline_size, block_band, content_band, room, room_inside};
 ghost use Rattle.layout_semantics.specs.Horizontal.{placing_of, block_flow};
 ghost use Rattle.layout_semantics.specs.Leads.{is_up_to, lead, lead_step};
 ghost use Rattle.layout_semantics.specs.Clearance.{Ground, resolve, resolve_step};
@@ -74,8 +74,8 @@ pub fn a_band_is_as_wide_as_the_containing_block(
     requires on_page { IsOnPage tree.now.boxes at }
     requires inside { Contains (kids_of tree.now.boxes at) kid }
     requires container { is_inline (kind_of tree.now at) ≡ false }
-    ensures { (cb : Band ℤ) → across cb ≡ room tree.now world at
-        → across (content_band tree.now world cb at) ≡ room tree.now world kid }
+    ensures { (cb : Band ℤ) → inline_size cb ≡ room tree.now world at
+        → inline_size (content_band tree.now world cb at) ≡ room tree.now world kid }
 {}
 
 /// The band that a block in normal flow, not replaced, gives those in it is the same at each height of the viewport
@@ -111,8 +111,8 @@ pub fn a_flow_comes_from_inside(tree: &BoxTree, world: World, at: usize)
         ≡ flow_step tree.now world (flow tree.now world) at cb top p }
 {}
 
-/// Lines follow one another until no stretch is left.
-pub fn lines_go_on_to_the_last_stretch()
+/// Lines follow one another until no segment is left.
+pub fn lines_go_on_to_the_last_segment()
     ensures done { (c : InlineContext) (now : SoFar) → lines_of c now [] ≡ laid_none now }
     ensures next { (c : InlineContext) (now : SoFar) (first : List Item) (parts : List (List Item))
         → lines_of c now (first ∷ parts)

@@ -5,12 +5,12 @@ ghost use Rattle.layout_semantics.specs.Preferred.{Child, block_widths, preferre
 ghost use Rattle.layout_semantics.specs.Replaced.{preferred_replaced};
 ghost use Rattle.layout_laws.specs.Greatest.{IsGreatestOf};
 ghost use Rattle.layout_laws.specs.FloatRuns.{IsChildWidth};
-ghost use Rattle.layout_laws.specs.Terms.{IsInFlowBlock, own_width, held_width};
+ghost use Rattle.layout_laws.specs.Terms.{IsInFlowBlock, own_width, clamped_width};
 ghost use Rattle.layout_laws.specs.Outer.{unbreakable_widths, piece_widths, child_least_widths, child_most_widths};
 
 use viz_base::{BoxTree, World};
 
-/// The preferred minimum width of inline content is that of the widest stretch that no line may break, or float, and
+/// The preferred minimum width of inline content is that of the widest segment that no line may break, or float, and
 /// the preferred width that of the widest piece between forced breaks, its floats in it (CSS 2.1, 10.3.5; our own
 /// reading).
 pub fn preferred_widths_of_inline_content(tree: &BoxTree, world: World, at: usize)
@@ -50,14 +50,14 @@ pub fn the_terms_of_a_block_add_up(tree: &BoxTree, world: World, at: usize)
 
 /// The used width of a box that isn't replaced is the one that its own `width` gives, but no more than its maximum,
 /// and then no less than its minimum (CSS 2.1, 10.4).
-pub fn used_widths_are_held(tree: &BoxTree, world: World, at: usize)
+pub fn used_widths_are_clamped(tree: &BoxTree, world: World, at: usize)
     ensures block { (cb : ℤ) → placing_of tree.now at ≡ block_flow
         → (widths tree.now world at cb).content
-        ≡ held_width tree.now world at cb
+        ≡ clamped_width tree.now world at cb
         (block_terms tree.now world at cb (own_width tree.now world at cb)).content }
     ensures shrunk { (cb : ℤ) → placing_of tree.now at ≡ shrunk
         → (widths tree.now world at cb).content
-        ≡ held_width tree.now world at cb
+        ≡ clamped_width tree.now world at cb
         (shrunk_terms tree.now world at cb (own_width tree.now world at cb)).content }
 {}
 

@@ -13,7 +13,7 @@ use Rattle.layout_semantics.specs.LineHeights.{shift_to}
 use Rattle.layout_semantics.specs.Lines.{lines_to}
 use Rattle.layout_semantics.specs.Order.{order_to}
 use Rattle.layout_semantics.specs.Preferred.{preferred_to}
-use Rattle.layout_semantics.specs.Stretches.{wraps}
+use Rattle.layout_semantics.specs.Segments.{wraps}
 use Rattle.layout_semantics.specs.Verticals.{verticals}
 
 unfoldable pub renderings_on_pages : ⊤

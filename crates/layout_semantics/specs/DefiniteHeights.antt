@@ -12,7 +12,7 @@ use Rattle.layout_semantics.specs.Blocks.{kind_of, parent_of}
 use Rattle.viz_base.specs.FontSizes.{fraction}
 use Rattle.viz_base.specs.Styles.{nothing}
 use Rattle.layout_semantics.specs.InlineContent.{is_zero}
-use Rattle.layout_semantics.specs.Lengths.{used, maximum, held, own}
+use Rattle.layout_semantics.specs.Lengths.{used, maximum, clamped, own}
 
 -- ---- the containing block of a percentage height
 
@@ -76,14 +76,14 @@ height_around tree w around (of_length.Pct p) = option_map (fraction p 100000000
 height_around tree w around length = Some (used tree w length (pos 0))
 
 -- a height after the box's maximum and minimum; a percentage of no definite height is no maximum, and a minimum of 0
-abbrev pub held_around : BoxTree → World → Option ℤ → ℕ → ℤ → ℤ
-held_around tree w around at height =
-    held (maximum (height_around tree w around) (own tree at (λ (s : Style). s.max_height) None))
+abbrev pub clamped_around : BoxTree → World → Option ℤ → ℕ → ℤ → ℤ
+clamped_around tree w around at height =
+    clamped (maximum (height_around tree w around) (own tree at (λ (s : Style). s.max_height) None))
     (unwrap_or (height_around tree w around (least_height tree at)) (pos 0)) height
 
 abbrev pub own_height_around : BoxTree → World → Option ℤ → ℕ → Option ℤ
 own_height_around tree w around at =
-    option_map (held_around tree w around at) (height_around tree w around (own_height tree at))
+    option_map (clamped_around tree w around at) (height_around tree w around (own_height tree at))
 
 unfoldable pub definite_height_to : ℕ → BoxTree → World → ℕ → Option ℤ
 definite_height_to zero tree w at = None
@@ -100,5 +100,5 @@ definite_height tree w at = definite_height_to (suc at) tree w at
 abbrev pub given_height : BoxTree → World → ℕ → Option ℤ
 given_height tree w at = height_around tree w (definite_height tree w at) (own_height tree at)
 
-abbrev pub held_height : BoxTree → World → ℕ → ℤ → ℤ
-held_height tree w at height = held_around tree w (definite_height tree w at) at height
+abbrev pub clamped_height : BoxTree → World → ℕ → ℤ → ℤ
+clamped_height tree w at height = clamped_around tree w (definite_height tree w at) at height

@@ -40,7 +40,7 @@ left_ones floats = filter is_left floats
 abbrev pub right_ones : List FloatBox → List FloatBox
 right_ones floats = filter (λ f. not (is_left f)) floats
 
--- the stretch of a containing block that floats leave: right of each left one and left of each right one
+-- the segment of a containing block that floats leave: right of each left one and left of each right one
 abbrev pub beside : List FloatBox → Band ℤ → Band ℤ
 beside floats cb =
     record {

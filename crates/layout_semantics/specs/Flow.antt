@@ -22,11 +22,11 @@ use Rattle.layout_semantics.specs.Floats.{FloatBox, floating, float_spot, with_f
 use Rattle.layout_semantics.specs.Margins.{collapsed}
 use Rattle.layout_semantics.specs.Verticals.{Verticals, verticals}
 use Rattle.layout_semantics.specs.Rectangles.{Frame, content_top, placed_box, shifted, outer_extent}
-use Rattle.layout_semantics.specs.FlowBoxes.{is_replaced_at, is_context_root, is_open_above, may_collapse_through, joins_last_child, flow_children, across, content_from}
+use Rattle.layout_semantics.specs.FlowBoxes.{is_replaced_at, is_context_root, is_open_above, may_collapse_through, joins_last_child, flow_children, inline_size, content_from}
 use Rattle.layout_semantics.specs.Leads.{none_passed, all_passed, is_up_to, lead, bottom_margin}
 use Rattle.layout_semantics.specs.Clearance.{Base, hangs, stands, Ground, on_ground, Resolved, resolve}
 use Rattle.layout_semantics.specs.Lengths.{own}
-use Rattle.layout_semantics.specs.DefiniteHeights.{given_height, held_height}
+use Rattle.layout_semantics.specs.DefiniteHeights.{given_height, clamped_height}
 use Rattle.layout_semantics.specs.Replaced.{replaced_size}
 use Rattle.layout_semantics.specs.Horizontal.{widths}
 use Rattle.layout_semantics.specs.InlineContent.{is_floated_at, has_line, inner_boxes}
@@ -70,7 +70,7 @@ abbrev pub raised : Option ℤ → ℤ → Option ℤ
 raised least y = Some (option_map_or (int_max y) least y)
 
 -- a box that is laid out, in coordinates whose origin is the corner of its outer box
-pub record Alone : Type 0 where
+pub record Independent : Type 0 where
   pub size : Extent ℤ
   pub baseline : Option ℤ
   pub boxes : List (Placed ℤ)
@@ -92,9 +92,9 @@ module _ (tree : BoxTree) (w : World) where
   -- ---- heights (10.5 to 10.7)
 
   -- a height of its own, where it is definite, else the height of the
-  -- content; then held between its maximum and its minimum
+  -- content; then clamped between its maximum and its minimum
   abbrev pub content_height : ℕ → ℤ → ℤ
-  content_height b auto = held_height tree w b (unwrap_or (given_height tree w b) auto)
+  content_height b auto = clamped_height tree w b (unwrap_or (given_height tree w b) auto)
 
   -- the auto height of a box that starts a context: down to the bottom margin edge of its last child
   -- or to its last line, and to the bottom margin edges of its floats (10.6.7); at least 0
@@ -124,31 +124,31 @@ module _ (tree : BoxTree) (w : World) where
 
   module _ (inside : ℕ → Band ℤ → ℤ → Progress → Progress) where
     -- a box that starts a context, a float or an inline-block say, at the top left of coordinates of its own
-    abbrev pub alone : ℕ → ℤ → Alone
-    alone b room = by_frame (corner_frame (widths tree w b room) (verticals tree w b room))
+    abbrev pub independent : ℕ → ℤ → Independent
+    independent b room = by_frame (corner_frame (widths tree w b room) (verticals tree w b room))
       where
         corner_frame : Widths ℤ → Verticals → Frame
         corner_frame x v = record { x = x; v = v; corner = record { x = x.margin_left; y = v.margin_top } }
 
-        whole : Placed ℤ → Option ℤ → List (Placed ℤ) → Alone
+        whole : Placed ℤ → Option ℤ → List (Placed ℤ) → Independent
         whole p baseline content = record { size = outer_extent p; baseline = baseline; boxes = p ∷ content }
 
-        by_content : Frame → Progress → Alone
+        by_content : Frame → Progress → Independent
         by_content f end =
             whole (placed_box tree b f (content_height b (context_height (content_top f) end))) end.baseline end.boxes
 
-        by_sort : Frame → Bool → Alone
+        by_sort : Frame → Bool → Independent
         by_sort f true = whole (placed_box tree b f (replaced_size tree w b room).height) None []
         by_sort f false = by_content f (inside b (content_from (pos 0) f.x) (content_top f) (fresh (content_top f)))
 
-        by_frame : Frame → Alone
+        by_frame : Frame → Independent
         by_frame f = by_sort f (is_replaced_at tree b)
 
     abbrev pub waiting_size : Waiting ℤ → Extent ℤ
-    waiting_size f = (alone f.at (across f.cb)).size
+    waiting_size f = (independent f.at (inline_size f.cb)).size
 
     -- a float that is laid out, and whose place is at y, among the floats of the context
-    abbrev pub after_float : Band ℤ → Progress → ℕ → ℤ → Alone → Progress
+    abbrev pub after_float : Band ℤ → Progress → ℕ → ℤ → Independent → Progress
     after_float cb p f y a = record p {
       floats = with_float (floating tree f a.size cb) p.floats p.least y;
       boxes = p.boxes ++ shifted (float_spot (floating tree f a.size cb) p.floats p.least y) a.boxes;
@@ -156,7 +156,7 @@ module _ (tree : BoxTree) (w : World) where
 
     -- a float stands as an empty block would that collapses through, and not above its container's content top
     abbrev pub float_child : Band ℤ → ℤ → Progress → ℕ → Progress
-    float_child cb top p f = after_float cb p f (int_max top (next_edge p.standing)) (alone f (across cb))
+    float_child cb top p f = after_float cb p f (int_max top (next_edge p.standing)) (independent f (inline_size cb))
 
     -- ---- boxes in flow
 
@@ -239,14 +239,14 @@ module _ (tree : BoxTree) (w : World) where
             (placed_box tree b f (content_height b (block_height joins (content_top f) end.standing)))
 
     abbrev pub laid : Band ℤ → Progress → ℕ → Reached → Laid
-    laid cb p b r = by_sort (frame (widths tree w b (across cb)) (verticals tree w b (across cb)))
+    laid cb p b r = by_sort (frame (widths tree w b (inline_size cb)) (verticals tree w b (inline_size cb)))
         (is_replaced_at tree b) (is_context_root tree b)
       where
         frame : Widths ℤ → Verticals → Frame
         frame x v = record { x = x; v = v; corner = record { x = cb.left +ℤ x.margin_left; y = r.top } }
 
         by_sort : Frame → Bool → Bool → Laid
-        by_sort f true any = laid_replaced (across cb) p b f
+        by_sort f true any = laid_replaced (inline_size cb) p b f
         by_sort f false true = laid_context cb p b f
         by_sort f false false = laid_block cb p b r.cleared f
 
@@ -290,22 +290,22 @@ module _ (tree : BoxTree) (w : World) where
     -- the outer size of a float or of an atomic inline-level box; the baseline of an inline-block is that of its
     -- last line, or its bottom margin edge where it has none, clips its content or is replaced (10.8.1)
     abbrev pub inner_size : Band ℤ → ℕ → Inner ℤ
-    inner_size cb k = by_alone (alone k (across cb))
+    inner_size cb k = by_independent (independent k (inline_size cb))
       where
         sized : Extent ℤ → ℤ → Inner ℤ
         sized size above = record { b = k; width = size.width; above = above; below = size.height -ℤ above }
 
-        by_baseline : Alone → Bool → Option ℤ → Inner ℤ
+        by_baseline : Independent → Bool → Option ℤ → Inner ℤ
         by_baseline a false (Some baseline) = sized a.size baseline
         by_baseline a _ _ = sized a.size a.size.height
 
-        by_alone : Alone → Inner ℤ
-        by_alone a = by_baseline a
+        by_independent : Independent → Inner ℤ
+        by_independent a = by_baseline a
             (is_floated_at tree k || is_replaced_at tree k || own tree k (λ (s : Style). s.clips) false) a.baseline
 
     abbrev pub entry_boxes : Band ℤ → Entry ℤ → List (Placed ℤ)
     entry_boxes cb (of_entry.Here p) = p ∷ []
-    entry_boxes cb (of_entry.Goes k at) = shifted at (alone k (across cb)).boxes
+    entry_boxes cb (of_entry.Goes k at) = shifted at (independent k (inline_size cb)).boxes
 
     abbrev pub line_tops : Entry ℤ → List ℤ
     line_tops (of_entry.Here p) = cond (is_line p.kind) (p.margin.top ∷ []) []
@@ -356,5 +356,5 @@ module _ (tree : BoxTree) (w : World) where
   flow = flow_to (length tree.boxes)
 
   -- a box that starts a context, at the top left of coordinates of its own
-  abbrev pub whole_alone : ℕ → ℤ → Alone
-  whole_alone b room = alone flow b room
+  abbrev pub whole_independent : ℕ → ℤ → Independent
+  whole_independent b room = independent flow b room

@@ -81,8 +81,8 @@ joins_last_child tree b = is_open_below tree b && has_auto_height tree b && has_
 -- ---- containing blocks (10.1)
 
 -- the width of a containing block
-abbrev pub across : Band ℤ → ℤ
-across cb = cb.right -ℤ cb.left
+abbrev pub inline_size : Band ℤ → ℤ
+inline_size cb = cb.right -ℤ cb.left
 
 -- from the left to the right edge of the content of a box whose margin edge is at `left`
 abbrev pub content_from : ℤ → Widths ℤ → Band ℤ
@@ -93,11 +93,11 @@ content_from left x = from (left +ℤ x.margin_left +ℤ x.border_left +ℤ x.pa
 
 -- of a box in a containing block
 abbrev pub content_band : BoxTree → World → Band ℤ → ℕ → Band ℤ
-content_band tree w cb b = content_from cb.left (widths tree w b (across cb))
+content_band tree w cb b = content_from cb.left (widths tree w b (inline_size cb))
 
 -- of a block in normal flow that isn't replaced: the viewport's height does not matter to it
 abbrev pub block_band : BoxTree → World → Band ℤ → ℕ → Band ℤ
-block_band tree w cb b = content_from cb.left (flow_widths tree w b (across cb))
+block_band tree w cb b = content_from cb.left (flow_widths tree w b (inline_size cb))
 
 -- ---- the width of a box's containing block, from the root down (10.1)
 

@@ -105,8 +105,8 @@ at_least terms least t = again_unless (int_le least t.content) terms least t
 
 -- with the width of the box's own property, then with its maximum where
 -- that is less, and then with its minimum where that is more
-abbrev pub held_terms : BoxTree → World → ℕ → ℤ → (Option ℤ → Widths ℤ) → Widths ℤ
-held_terms tree w at cb terms =
+abbrev pub clamped_terms : BoxTree → World → ℕ → ℤ → (Option ℤ → Widths ℤ) → Widths ℤ
+clamped_terms tree w at cb terms =
     let width = used_unless_auto tree w (own tree at (λ (s : Style). s.width) of_length.Auto) cb in
     let most = maximum (λ length. used_unless_auto tree w length cb) (own tree at (λ (s : Style). s.max_width) None) in
     let least = used tree w (own tree at (λ (s : Style). s.min_width) nothing) cb in
@@ -133,13 +133,13 @@ placing_of tree at = by_kind (kind_of tree at) (is_floated_at tree at) (is_inlin
 
 -- the used values of a block in normal flow that isn't replaced
 abbrev pub flow_widths : BoxTree → World → ℕ → ℤ → Widths ℤ
-flow_widths tree w at cb = held_terms tree w at cb (block_terms tree w at cb)
+flow_widths tree w at cb = clamped_terms tree w at cb (block_terms tree w at cb)
 
 -- the used values of a box in a containing block of width `cb`
 unfoldable pub widths : BoxTree → World → ℕ → ℤ → Widths ℤ
 widths tree w at cb = elim (placing_of tree at) [
   | block_flow ↦ flow_widths tree w at cb
-  | shrunk ↦ held_terms tree w at cb (shrunk_terms tree w at cb)
+  | shrunk ↦ clamped_terms tree w at cb (shrunk_terms tree w at cb)
   | replaced_block ↦ fixed_terms tree w at cb (replaced_size tree w at cb).width
   | replaced_shrunk ↦ terms_around tree w at cb (replaced_size tree w at cb).width
 ]

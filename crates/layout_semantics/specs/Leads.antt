@@ -10,7 +10,7 @@ use Rattle.viz_base.specs.declared.styles.Clear.TheVariants as of_clear
 use Rattle.viz_base.specs.declared.trees.BoxTree.{BoxTree}
 use Rattle.viz_base.specs.declared.worlds.World.{World}
 use Rattle.layout_semantics.specs.Verticals.{verticals}
-use Rattle.layout_semantics.specs.FlowBoxes.{clear_of, is_open_above, may_collapse_through, flow_children, across, block_band}
+use Rattle.layout_semantics.specs.FlowBoxes.{clear_of, is_open_above, may_collapse_through, flow_children, inline_size, block_band}
 use Rattle.layout_semantics.specs.InlineContent.{is_floated_at, has_line}
 
 -- the margins, the floats between them with their containing blocks, where
@@ -41,10 +41,10 @@ clears_something _ = true
 
 module _ (tree : BoxTree) (w : World) where
   abbrev pub top_margin : Band ℤ → ℕ → ℤ
-  top_margin cb b = (verticals tree w b (across cb)).margin_top
+  top_margin cb b = (verticals tree w b (inline_size cb)).margin_top
 
   abbrev pub bottom_margin : Band ℤ → ℕ → ℤ
-  bottom_margin cb b = (verticals tree w b (across cb)).margin_bottom
+  bottom_margin cb b = (verticals tree w b (inline_size cb)).margin_bottom
 
   -- this before the rest, which goes on only where this goes through
   abbrev pub followed_by : Leading → Leading → Leading

@@ -40,8 +40,8 @@ maximum measure most = option_map_or measure most None
 
 -- a length that is above the maximum becomes it, and then one that is below
 -- the minimum becomes that (CSS 2.1, 10.4, 10.7)
-abbrev pub held : Option ℤ → ℤ → ℤ → ℤ
-held most least length = int_max (option_map_or (int_min length) most length) least
+abbrev pub clamped : Option ℤ → ℤ → ℤ → ℤ
+clamped most least length = int_max (option_map_or (int_min length) most length) least
 
 abbrev pub total : List ℤ → ℤ
 total [] = pos 0

@@ -15,7 +15,7 @@ pub mod Lengths
 pub mod DefiniteHeights
 pub mod Replaced
 pub mod InlineContent
-pub mod Stretches
+pub mod Segments
 pub mod Preferred
 pub mod Horizontal
 pub mod LineHeights

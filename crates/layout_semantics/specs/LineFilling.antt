@@ -15,7 +15,7 @@ use Rattle.layout_semantics.specs.Fonts.{text_width}
 use Rattle.layout_semantics.specs.Lengths.{used, total}
 use Rattle.layout_semantics.specs.Floats.{FloatBox, Floating, floating, float_spot, with_float_at, band_at, meets, candidate_tops}
 use Rattle.layout_semantics.specs.InlineContent.{Item, start, finish, word, space, atomic, forced, float, float_boxes, start_edges, end_edges, makes_line}
-use Rattle.layout_semantics.specs.Stretches.{is_forced, what_stays}
+use Rattle.layout_semantics.specs.Segments.{is_forced, what_stays}
 use Rattle.layout_semantics.specs.LineHeights.{InlineContext, inner_of}
 
 -- ---- widths
@@ -87,7 +87,7 @@ abbrev pub least_or : ℤ → List ℤ → ℤ
 least_or y [] = y
 least_or y (x ∷ xs) = least_from x xs
 
--- the highest place from y on where so wide a stretch fits beside the floats, or
+-- the highest place from y on where so wide a segment fits beside the floats, or
 -- no float is met; only below a float's bottom is there more room
 abbrev pub line_top : InlineContext → List FloatBox → ℤ → ℤ → ℤ → ℤ
 line_top c floats y tall width =
@@ -97,7 +97,7 @@ line_top c floats y tall width =
 -- ---- what a line holds
 
 -- a line to be filled: its top, the height of the tallest line, the highest top of its floats,
--- the floats that stand before its first stretch, and the stretches that are left
+-- the floats that stand before its first segment, and the segments that are left
 pub record Line : Type 0 where
   pub top : ℤ
   pub tall : ℤ
@@ -118,7 +118,7 @@ before_line tree items = before_first (makes_line tree) items
 abbrev pub from_line_on : BoxTree → List Item → List Item
 from_line_on tree items = drop (length (before_line tree items)) items
 
--- the floats met at the end of a stretch: in the first one those before anything on the line are placed before
+-- the floats met at the end of a segment: in the first one those before anything on the line are placed before
 abbrev pub floats_met : BoxTree → ℕ → List Item → List ℕ
 floats_met tree zero items = float_boxes (from_line_on tree items)
 floats_met tree (suc n) items = float_boxes items
@@ -144,20 +144,20 @@ meet c line held met at = with_place (line_spot c met.floats line.least line.top
     with_place spot =
         cond (none_waits met && leaves_room c line held met at spot) (with_spot c met at spot) (with_waiting met at)
 
--- the floats met in the first n stretches, and those before
+-- the floats met in the first n segments, and those before
 abbrev pub met_after : InlineContext → Line → ℕ → Met
 met_after c line zero = line.before
 met_after c line (suc n) =
     fold (meet c line (width_held c (first_items line (suc n)))) (met_after c line n)
     (floats_met c.tree n (slice_index_or line.parts n []))
 
--- the first k stretches fit beside the floats met in those before the last, and no forced break stands before it
+-- the first k segments fit beside the floats met in those before the last, and no forced break stands before it
 abbrev pub may_hold : InlineContext → Line → ℕ → Bool
 may_hold c line k =
     fits (width_held c (first_items line k)) (band_at (met_after c line (k - 1)).floats c.cb line.top line.tall)
     && not (list_any is_forced (first_items line (k - 1)))
 
--- a line holds the longest list of stretches such that each of its beginnings of
--- two and more may stand on it; the first stretch it holds in any case
-abbrev pub stretches_held : InlineContext → Line → ℕ
-stretches_held c line = suc (prefix_len (may_hold c line) (range_with_len 2 (length line.parts - 1)))
+-- a line holds the longest list of segments such that each of its beginnings of
+-- two and more may stand on it; the first segment it holds in any case
+abbrev pub segments_held : InlineContext → Line → ℕ
+segments_held c line = suc (prefix_len (may_hold c line) (range_with_len 2 (length line.parts - 1)))

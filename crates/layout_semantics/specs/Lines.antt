@@ -15,9 +15,9 @@ use Rattle.std.specs.Option.{option_map_or}
 use Rattle.layout_semantics.specs.Blocks.{node_of, plain_box, style_of}
 use Rattle.layout_semantics.specs.Floats.{FloatBox, band_at}
 use Rattle.layout_semantics.specs.InlineContent.{Item, start, finish, content, float_boxes, makes_line}
-use Rattle.layout_semantics.specs.Stretches.{stretches, what_stays}
+use Rattle.layout_semantics.specs.Segments.{segments, what_stays}
 use Rattle.layout_semantics.specs.LineHeights.{InlineContext, LineExtent, height_of_extent, line_extent, extended_boxes, tallest}
-use Rattle.layout_semantics.specs.LineFilling.{Met, Line, band_width, width_held, place_each, line_top, before_line, met_after, first_items, stretches_held}
+use Rattle.layout_semantics.specs.LineFilling.{Met, Line, band_width, width_held, place_each, line_top, before_line, met_after, first_items, segments_held}
 use Rattle.layout_semantics.specs.Fragments.{set_out, SetLine, line_entries, float_entries}
 
 -- ---- between lines
@@ -135,32 +135,32 @@ laid_no_line c now items =
 
 -- ---- all lines
 
--- the first n stretches of a line
-abbrev pub laid_stretches : InlineContext → SoFar → Line → ℕ → LaidLines
-laid_stretches c now line n = by_existence (list_any (makes_line c.tree) (first_items line n))
+-- the first n segments of a line
+abbrev pub laid_segments : InlineContext → SoFar → Line → ℕ → LaidLines
+laid_segments c now line n = by_existence (list_any (makes_line c.tree) (first_items line n))
   where
     by_existence : Bool → LaidLines
     by_existence true = laid_line c now line (first_items line n) (met_after c line n)
     by_existence false = laid_no_line c now (first_items line n)
 
--- the next line, and the stretches after it
+-- the next line, and the segments after it
 abbrev pub laid_next : InlineContext → ℤ → SoFar → List Item → List (List Item) → LaidLines × List (List Item)
 laid_next c tall now first parts = with_line (next_line c tall now first parts)
   where
     with_count : Line → ℕ → LaidLines × List (List Item)
-    with_count line n = (laid_stretches c now line n, drop n parts)
+    with_count line n = (laid_segments c now line n, drop n parts)
 
     with_line : Line → LaidLines × List (List Item)
-    with_line line = with_count line (stretches_held c line)
+    with_line line = with_count line (segments_held c line)
 
 abbrev pub go_on : (SoFar → List (List Item) → LaidLines) → LaidLines × List (List Item) → LaidLines
 go_on rest next = followed next.0 (rest next.0.after next.1)
 
--- where no stretch is left
+-- where no segment is left
 abbrev pub laid_none : SoFar → LaidLines
 laid_none now = record { after = now; entries = [] }
 
--- the lines of these stretches, at most so many
+-- the lines of these segments, at most so many
 unfoldable pub lines_to : ℕ → InlineContext → ℤ → SoFar → List (List Item) → LaidLines
 lines_to zero c tall now parts = laid_none now
 lines_to (suc lines) c tall now [] = laid_none now
@@ -179,9 +179,9 @@ pub record LineList : Type 0 where
   pub floats : List FloatBox
 
 -- from y on, in a block formatting context with these floats, none of the lines' floats having its top
--- above `least`; each line holds one stretch at least, so there are no more lines than stretches
+-- above `least`; each line holds one segment at least, so there are no more lines than segments
 abbrev pub lines_in : InlineContext → ℤ → ℤ → List FloatBox → LineList
-lines_in c y least floats = listed (lines_of (stretches c.tree (content c.tree c.container)))
+lines_in c y least floats = listed (lines_of (segments c.tree (content c.tree c.container)))
   where
     lines_of : List (List Item) → LaidLines
     lines_of parts = lines_to (length parts) c (tallest c) (before_all y least floats) parts

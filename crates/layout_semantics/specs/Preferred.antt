@@ -14,10 +14,10 @@ use Rattle.layout_semantics.specs.Extremes.{greatest_from}
 use Rattle.layout_semantics.specs.Order.{kids_of}
 use Rattle.layout_semantics.specs.Blocks.{kind_of, node_of}
 use Rattle.layout_semantics.specs.Fonts.{text_width}
-use Rattle.layout_semantics.specs.Lengths.{used_if_absolute, maximum, held, total, own}
+use Rattle.layout_semantics.specs.Lengths.{used_if_absolute, maximum, clamped, total, own}
 use Rattle.layout_semantics.specs.Replaced.{preferred_replaced}
 use Rattle.layout_semantics.specs.InlineContent.{Item, start, finish, word, space, atomic, forced, float, content, holds_inline, is_floated_at, inner_boxes, float_boxes, start_edges, end_edges}
-use Rattle.layout_semantics.specs.Stretches.{stretches, pieces, what_stays}
+use Rattle.layout_semantics.specs.Segments.{segments, pieces, what_stays}
 
 -- ---- a box in the preferred widths of its container
 
@@ -30,14 +30,14 @@ abbrev pub outer_edges : BoxTree → World → ℕ → ℤ
 outer_edges tree w at = total (map (absolute_part tree w) (start_edges tree at ++ end_edges tree at))
 
 -- a width between its minimum and its maximum; a percentage counts 0 as a minimum, and as a maximum none
-abbrev pub held_absolute : BoxTree → World → ℕ → ℤ → ℤ
-held_absolute tree w at width =
-    held (maximum (used_if_absolute tree w) (own tree at (λ (s : Style). s.max_width) None))
+abbrev pub clamped_absolute : BoxTree → World → ℕ → ℤ → ℤ
+clamped_absolute tree w at width =
+    clamped (maximum (used_if_absolute tree w) (own tree at (λ (s : Style). s.max_width) None))
     (absolute_part tree w (own tree at (λ (s : Style). s.min_width) nothing)) width
 
 -- with its width, or where that is `auto` or a percentage with its own preferred one, and its edges
 abbrev pub outer_width : BoxTree → World → ℕ → ℤ → ℤ
-outer_width tree w at inside = held_absolute tree w at (by_kind (kind_of tree at)) +ℤ outer_edges tree w at
+outer_width tree w at inside = clamped_absolute tree w at (by_kind (kind_of tree at)) +ℤ outer_edges tree w at
   where
     by_kind : Kind → ℤ
     by_kind of_kind.Replaced = inside
@@ -93,22 +93,22 @@ preferred_item tree w inner (finish at) = total (map (absolute_part tree w) (end
 preferred_item tree w inner (forced at) = pos 0
 preferred_item tree w inner (float at) = pos 0
 
--- a stretch without the spaces at its ends
-abbrev pub preferred_stretch : BoxTree → World → List (Option ℤ) → List Item → ℤ
-preferred_stretch tree w inner items = total (map (preferred_item tree w inner) (what_stays items))
+-- a segment without the spaces at its ends
+abbrev pub preferred_segment : BoxTree → World → List (Option ℤ) → List Item → ℤ
+preferred_segment tree w inner items = total (map (preferred_item tree w inner) (what_stays items))
 
 abbrev pub preferred_floats : List (Option ℤ) → List Item → List ℤ
 preferred_floats inner items = map (measured_width inner) (float_boxes items)
 
--- the widest stretch that no line may break, or float
+-- the widest segment that no line may break, or float
 abbrev pub least_inline : BoxTree → World → List (Option ℤ) → List Item → ℤ
 least_inline tree w inner items =
-    greatest (map (preferred_stretch tree w inner) (stretches tree items) ++ preferred_floats inner items)
+    greatest (map (preferred_segment tree w inner) (segments tree items) ++ preferred_floats inner items)
 
 -- the widest piece between forced breaks, with the floats in it
 abbrev pub most_inline : BoxTree → World → List (Option ℤ) → List Item → ℤ
 most_inline tree w inner items =
-    greatest (map (λ piece. preferred_stretch tree w inner piece +ℤ total (preferred_floats inner piece))
+    greatest (map (λ piece. preferred_segment tree w inner piece +ℤ total (preferred_floats inner piece))
     (pieces items))
 
 -- ---- a box

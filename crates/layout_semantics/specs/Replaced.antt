@@ -10,8 +10,8 @@ use Rattle.viz_base.specs.declared.worlds.World.{World}
 use Rattle.std.specs.Prelude.{slice_get}
 use Rattle.viz_base.specs.FontSizes.{fraction}
 use Rattle.viz_base.specs.Styles.{nothing}
-use Rattle.layout_semantics.specs.Lengths.{used, used_unless_auto, used_if_absolute, maximum, held, own}
-use Rattle.layout_semantics.specs.DefiniteHeights.{given_height, held_height}
+use Rattle.layout_semantics.specs.Lengths.{used, used_unless_auto, used_if_absolute, maximum, clamped, own}
+use Rattle.layout_semantics.specs.DefiniteHeights.{given_height, clamped_height}
 
 -- the intrinsic width and height, in pixels
 abbrev pub intrinsic : BoxTree → ℕ → ℕ × ℕ
@@ -23,12 +23,12 @@ abbrev pub by_ratio : ℤ → ℕ → ℕ → ℤ
 by_ratio given zero wanted = pos (64 * wanted)
 by_ratio given (suc n) wanted = fraction (pos wanted) (suc n) given
 
--- the width: that given, or what follows from the height, or the intrinsic one; and then held
+-- the width: that given, or what follows from the height, or the intrinsic one; and then clamped
 abbrev pub replaced_width : ℕ × ℕ → Option ℤ → Option ℤ → Option ℤ → ℤ → ℤ
 replaced_width size width height most least =
-    held most least (unwrap_or width (option_map_or (λ h. by_ratio h size.1 size.0) height (pos (64 * size.0))))
+    clamped most least (unwrap_or width (option_map_or (λ h. by_ratio h size.1 size.0) height (pos (64 * size.0))))
 
--- the height: that given, or what follows from the width as it was held
+-- the height: that given, or what follows from the width as it was clamped
 abbrev pub replaced_height : ℕ × ℕ → ℤ → Option ℤ → ℤ
 replaced_height size width height = unwrap_or height (by_ratio width size.0 size.1)
 
@@ -40,7 +40,7 @@ replaced_size tree w at cb =
     let most = maximum (λ length. used_unless_auto tree w length cb) (own tree at (λ (s : Style). s.max_width) None) in
     let least = used tree w (own tree at (λ (s : Style). s.min_width) nothing) cb in
     let width = replaced_width (intrinsic tree at) given height most least in
-    record { width = width; height = held_height tree w at (replaced_height (intrinsic tree at) width height) }
+    record { width = width; height = clamped_height tree w at (replaced_height (intrinsic tree at) width height) }
 
 -- the width in preferred widths, where percentages count as `auto` and none: our own reading of 10.3.5
 abbrev pub preferred_replaced : BoxTree → World → ℕ → ℤ

@@ -18,14 +18,14 @@ pub record Verticals : Type 0 where
 -- a percentage of a margin or padding, a vertical one too, is of the containing block's
 -- width, here `across` (8.3, 8.4); an auto margin above or below is 0 (10.6.2, 10.6.3)
 unfoldable pub verticals : BoxTree → World → ℕ → ℤ → Verticals
-verticals tree w b across = by_sides (margins tree b) (borders tree b) (paddings tree b)
+verticals tree w b inline_size = by_sides (margins tree b) (borders tree b) (paddings tree b)
   where
     by_sides : Sides Length → Sides Length → Sides Length → Verticals
     by_sides margin border padding = record {
-      margin_top = used tree w margin.top across;
-      border_top = used tree w border.top across;
-      padding_top = used tree w padding.top across;
-      padding_bottom = used tree w padding.bottom across;
-      border_bottom = used tree w border.bottom across;
-      margin_bottom = used tree w margin.bottom across;
+      margin_top = used tree w margin.top inline_size;
+      border_top = used tree w border.top inline_size;
+      padding_top = used tree w padding.top inline_size;
+      padding_bottom = used tree w padding.bottom inline_size;
+      border_bottom = used tree w border.bottom inline_size;
+      margin_bottom = used tree w margin.bottom inline_size;
     }

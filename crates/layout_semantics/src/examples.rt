@@ -106,7 +106,7 @@ pub fn clipped_block()
         ∷ edges 0 3200 20480 3840 ∷ [] }
 {}
 
-/// A width held by its maximum keeps the ratio of an image (CSS 2.1, 10.4).
+/// A width clamped by its maximum keeps the ratio of an image (CSS 2.1, 10.4).
 pub fn wide_image()
     ensures { (ok : TreeKeeps wide_image)
         → border_boxes wide_image ok ≡ edges 0 0 20480 15667 ∷ edges 0 0 20480 15667

@@ -16,7 +16,7 @@ use Rattle.flow_steps.specs.Flow.{Standing, at_top, below, Context, next_edge, c
 use Rattle.lay_margin.specs.declared.runs.Run.{Run}
 use Rattle.layout_laws.proofs.Levels.{All-implied}
 use Rattle.page_limits.specs.Bounds.{Bounds, AreInside, grown, all_around, IsLevelIn, IsAsideIn, IsQuadIn, IsFloatIn, IsPlacedIn, IsPutIn}
-use Rattle.page_limits.specs.Boxes.{AreWidthsSmall, AreSidesSmall, IsHeightHeld}
+use Rattle.page_limits.specs.Boxes.{AreWidthsSmall, AreSidesSmall, IsHeightClamped}
 use Rattle.page_limits.proofs.Levels.{All-map, level-wider, level-max, quad-wider, inside-grown}
 use Rattle.page_limits.proofs.WaysWithin.{IsRunLow, collapse-small, level-near}
 
@@ -132,9 +132,9 @@ module _ (s t : ℕ) (fine : 8 * t ≤ s) where
       two_more : (z : ℤ) → sized (b.aside + s + s) z → sized (b.aside + 2 * s) z
       two_more z l = omega (arith, l)
 
-  -- a height that is held goes down no farther than the content
-  pub held-in : (b : Bounds) (top auto h : ℤ) → IsHeightHeld t auto h → IsLevelIn b top → IsLevelIn b (top +ℤ auto) → IsLevelIn (grown b (all_around s)) (top +ℤ h)
-  held-in b top auto h i l m =
+  -- a height that is clamped goes down no farther than the content
+  pub clamped-in : (b : Bounds) (top auto h : ℤ) → IsHeightClamped t auto h → IsLevelIn b top → IsLevelIn b (top +ℤ auto) → IsLevelIn (grown b (all_around s)) (top +ℤ h)
+  clamped-in b top auto h i l m =
       let from = i.from in let to = i.to in let lt = l.top in let lb = l.bottom in let mb = m.bottom in
       record { top = omega (arith, ints, fine); bottom = omega (arith, ints, clamps, fine) }
 

@@ -182,20 +182,20 @@ module _ (tree : BoxTree) (w : World) where
       })))
 
   -- which of them the table has
-  abbrev pub IsHeldIn : List ℕ → Item → Type 0
-  IsHeldIn all (atomic at) = Contains all at
-  IsHeldIn all (float at) = Contains all at
-  IsHeldIn all _ = Unit {0}
+  abbrev pub IsClampedIn : List ℕ → Item → Type 0
+  IsClampedIn all (atomic at) = Contains all at
+  IsClampedIn all (float at) = Contains all at
+  IsClampedIn all _ = Unit {0}
 
-  pub held-in : (all : List ℕ) (items : List Item) → ((x : ℕ) → Contains (inner_items items) x → Contains all x) → AllByRecursion (IsHeldIn all) items
-  held-in all [] f = tt
-  held-in all (atomic at ∷ items) f = (f at (first_member _ refl), held-in all items (λ x a. f x (later_member _ a)))
-  held-in all (float at ∷ items) f = (f at (first_member _ refl), held-in all items (λ x a. f x (later_member _ a)))
-  held-in all (start at ∷ items) f = (tt, held-in all items f)
-  held-in all (finish at ∷ items) f = (tt, held-in all items f)
-  held-in all (word at text ∷ items) f = (tt, held-in all items f)
-  held-in all (space at ∷ items) f = (tt, held-in all items f)
-  held-in all (forced at ∷ items) f = (tt, held-in all items f)
+  pub clamped-in : (all : List ℕ) (items : List Item) → ((x : ℕ) → Contains (inner_items items) x → Contains all x) → AllByRecursion (IsClampedIn all) items
+  clamped-in all [] f = tt
+  clamped-in all (atomic at ∷ items) f = (f at (first_member _ refl), clamped-in all items (λ x a. f x (later_member _ a)))
+  clamped-in all (float at ∷ items) f = (f at (first_member _ refl), clamped-in all items (λ x a. f x (later_member _ a)))
+  clamped-in all (start at ∷ items) f = (tt, clamped-in all items f)
+  clamped-in all (finish at ∷ items) f = (tt, clamped-in all items f)
+  clamped-in all (word at text ∷ items) f = (tt, clamped-in all items f)
+  clamped-in all (space at ∷ items) f = (tt, clamped-in all items f)
+  clamped-in all (forced at ∷ items) f = (tt, clamped-in all items f)
 
   unfoldable pub IsNoInline : ℕ → Type 0
   IsNoInline k = sort_of tree k ≡ an_inline → ⊥

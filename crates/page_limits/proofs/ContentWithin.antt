@@ -10,7 +10,7 @@ use Rattle.viz_base.specs.declared.layouts.Entry.TheVariants as of_entry
 use Rattle.viz_base.specs.declared.trees.BoxTree.{BoxTree}
 use Rattle.viz_base.specs.declared.worlds.World.{World}
 use Rattle.viz_base.proofs.ListLemmas.{all_append}
-use Rattle.layout_semantics.specs.Flow.{Alone, raised}
+use Rattle.layout_semantics.specs.Flow.{Independent, raised}
 use Rattle.layout_semantics.specs.FlowBoxes.{flow_children, content_from}
 use Rattle.layout_semantics.specs.Horizontal.{widths}
 use Rattle.layout_semantics.specs.InlineContent.{has_line, inner_boxes, content}
@@ -26,7 +26,7 @@ use Rattle.flow_steps.specs.Flow.{Context, Step, Standing, at_top, below, inner_
 use Rattle.flow_steps.proofs.Sound.{IsSound, flow-sound}
 use Rattle.page_limits.specs.Bounds.{Bounds, grown, IsLevelIn, IsBandIn, IsPlacedIn}
 use Rattle.page_limits.specs.Inline.{IsContentSmall, IsEntryIn, AreLinesIn}
-use Rattle.page_limits.specs.Boxes.{IsWhole, IsBoxSmall, IsAloneIn}
+use Rattle.page_limits.specs.Boxes.{IsWhole, IsBoxSmall, IsIndependentIn}
 use Rattle.page_limits.specs.Rises.{content_rise}
 use Rattle.page_limits.proofs.Levels.{inside-grown}
 use Rattle.page_limits.proofs.LinesWithin.{levels-wider, lines-within}
@@ -36,12 +36,12 @@ use Rattle.page_limits.proofs.BoxesWithin.{boxes-put, raised-in, none-low}
 use Rattle.page_limits.proofs.FlowWithin.{IsStandingIn, IsContextIn, IsStepIn, context-wider, children-in}
 
 module _ (tree : BoxTree) (w : World) (own turned : ℕ → Bounds) (s t : ℕ) (fine : 8 * t ≤ s)
-    (boxes : (k : ℕ) → IsOnPage tree.boxes k → IsWhole tree k → IsBoxSmall tree w t k) (apart : ℕ → Alone) (alone_in : (k : ℕ) → IsAloneIn (own k) s (apart k)) where
+    (boxes : (k : ℕ) → IsOnPage tree.boxes k → IsWhole tree k → IsBoxSmall tree w t k) (apart : ℕ → Independent) (independent_in : (k : ℕ) → IsIndependentIn (own k) s (apart k)) where
   abbrev IsStep : Bounds → List ℕ → Step → Type 0
-  IsStep b ks q = IsStepIn tree w own turned s t fine boxes apart alone_in b ks q
+  IsStep b ks q = IsStepIn tree w own turned s t fine boxes apart independent_in b ks q
 
   abbrev IsContext : Bounds → List ℕ → Context → Type 0
-  IsContext b ks c = IsContextIn tree w own turned s t fine boxes apart alone_in b ks c
+  IsContext b ks c = IsContextIn tree w own turned s t fine boxes apart independent_in b ks c
 
   -- the inline content of a box in so wide a containing block
   abbrev pub line_context : ℕ → ℕ → ℤ → ℤ → InlineContext
@@ -57,7 +57,7 @@ module _ (tree : BoxTree) (w : World) (own turned : ℕ → Bounds) (s t : ℕ) 
   entries-placed content b [] a = tt
   entries-placed content b (of_entry.Here p ∷ es) a = (a.0, entries-placed content b es a.1)
   entries-placed content b (of_entry.Goes k at ∷ es) a =
-      all_append (IsPlacedIn b) (entry_boxes tree w content apart (of_entry.Goes k at)) (flat_map (entry_boxes tree w content apart) es) (boxes-put b (own k) at (apart k).boxes a.0 (alone_in k).boxes) (entries-placed content b es a.1)
+      all_append (IsPlacedIn b) (entry_boxes tree w content apart (of_entry.Goes k at)) (flat_map (entry_boxes tree w content apart) es) (boxes-put b (own k) at (apart k).boxes a.0 (independent_in k).boxes) (entries-placed content b es a.1)
 
   tops-in : (b : Bounds) (es : List (Entry ℤ)) → AllByRecursion (IsEntryIn own b) es → AllByRecursion (IsLevelIn b) (flat_map line_tops es)
   tops-in b [] a = tt
@@ -105,12 +105,12 @@ module _ (tree : BoxTree) (w : World) (own turned : ℕ → Bounds) (s t : ℕ) 
 
     pub content-in : (n k : ℕ) → IsInside n k
     unfolding content_to
-    content-in zero k b left wide top c i l band at h = record { context = context-wider tree w own turned s t fine boxes apart alone_in b (grown b (content_rise tree own turned s k)) [] c (inside-grown b (content_rise tree own turned s k)) (none-next b c h); placed = tt }
+    content-in zero k b left wide top c i l band at h = record { context = context-wider tree w own turned s t fine boxes apart independent_in b (grown b (content_rise tree own turned s k)) [] c (inside-grown b (content_rise tree own turned s k)) (none-next b c h); placed = tt }
       where
         none-next : (b : Bounds) (c : Context) → IsContext b (flow_children tree k) c → IsContext b [] c
         none-next b c h = record { standing = by c.standing h.standing; floats = h.floats; least = h.least; baseline = h.baseline }
           where
-            by : (st : Standing) → IsStandingIn tree w own turned s t fine boxes apart alone_in b (flow_children tree k) st → IsStandingIn tree w own turned s t fine boxes apart alone_in b [] st
+            by : (st : Standing) → IsStandingIn tree w own turned s t fine boxes apart independent_in b (flow_children tree k) st → IsStandingIn tree w own turned s t fine boxes apart independent_in b [] st
             by (at_top y None) q = (q.0, tt)
             by (at_top y (Some d)) q = (q.0, behind tt)
             by (below edge run stuck) q = q
@@ -127,7 +127,7 @@ module _ (tree : BoxTree) (w : World) (own turned : ℕ → Bounds) (s t : ℕ) 
         by false e again =
             subst (IsStep (grown b (content_rise tree own turned s k)) []) (sym (step-children e))
             (subst (λ (r : Bounds). IsStep (grown b r) [] (children (child tree w (content_to tree w apart n) apart cb top) c (flow_children tree k))) (sym (rise-of-kids tree own turned s k l e))
-            (children-in tree w own turned s t fine boxes apart alone_in (content_to tree w apart n) b cb top c (flow_children tree k)
+            (children-in tree w own turned s t fine boxes apart independent_in (content_to tree w apart n) b cb top c (flow_children tree k)
             (All-implied (IsFrom tree.boxes (suc k)) (λ j. IsInside n j) (flow_children tree k) (λ j f. again j) (children-from tree k))
             (All-implied (IsFrom tree.boxes (suc k)) (λ j. j < length tree.boxes) (flow_children tree k) (λ j f. f.within) (children-from tree k))
             (flow-sound tree w k left wide i) band at h))

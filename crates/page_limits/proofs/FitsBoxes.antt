@@ -13,7 +13,7 @@ use Rattle.viz_base.specs.declared.trees.BoxTree.{BoxTree}
 use Rattle.viz_base.specs.declared.worlds.World.{World}
 use Rattle.viz_calc.specs.State.{AllSmall}
 use Rattle.layout_semantics.specs.DefiniteHeights.{given_height}
-use Rattle.layout_semantics.specs.FlowBoxes.{across, room}
+use Rattle.layout_semantics.specs.FlowBoxes.{inline_size, room}
 use Rattle.layout_semantics.specs.Horizontal.{Placing, block_flow, shrunk, replaced_block, replaced_shrunk, placing_of, flow_widths}
 use Rattle.layout_semantics.specs.Lengths.{own_style, margins}
 use Rattle.layout_semantics.specs.Order.{IsOnPage}
@@ -25,7 +25,7 @@ use Rattle.lay_margin.specs.Fitting.{BoxFits, InsideFits, MarginFits, content_wa
 use Rattle.lay_length.proofs.SmallNumbers.{size-+, size--}
 use Rattle.page_limits.specs.Boxes.{AreWidthsSmall, IsWhole}
 use Rattle.page_limits.proofs.TermsWithin.{box-small}
-use Rattle.page_limits.specs.Across.{AreWidthsBounded}
+use Rattle.page_limits.specs.InlineSizes.{AreWidthsBounded}
 use Rattle.page_limits.proofs.WidthsCosts.{by_height}
 use Rattle.page_limits.proofs.WidthsTerms.{far, height_in, width_in}
 use Rattle.page_limits.proofs.WidthsLevels.{IsFarPage, reach_of, reach-low}
@@ -34,7 +34,7 @@ use Rattle.page_limits.proofs.WidthsSmall.{whole-bounded}
 use Rattle.page_limits.proofs.HeightsBoxes.{by_width-size}
 use Rattle.page_limits.proofs.PageSmall.{properties-small}
 use Rattle.page_limits.proofs.FitsLengths.{IsLow, AreLengthsLow}
-use Rattle.page_limits.proofs.FitsAcross.{length-fits, edges-fit, verticals-fit, hold-fits, fixed-block-fits, block-fits, shrunk-fits}
+use Rattle.page_limits.proofs.FitsInlineSizes.{length-fits, edges-fit, verticals-fit, hold-fits, fixed-block-fits, block-fits, shrunk-fits}
 use Rattle.page_limits.proofs.FitsHeights.{lengths-of, given-fits}
 
 -- ---- numbers
@@ -150,20 +150,20 @@ module _ (tree : BoxTree) (page : IsFarPage tree) (w : World) (small : w.s ≤ 2
 
     -- ---- its margins, and the containing block of the boxes in it
 
-    module _ (band : Band ℤ) (same : across band ≡ room tree w k) (left : unsigned_abs band.left ≤ 2 ^ 90) (right : unsigned_abs band.right ≤ 2 ^ 90) where
-      across-fits : AllSmall (across band ∷ [])
-      across-fits = let size = size-- band.right band.left in (omega (arith, size, left, right), tt)
+    module _ (band : Band ℤ) (same : inline_size band ≡ room tree w k) (left : unsigned_abs band.left ≤ 2 ^ 90) (right : unsigned_abs band.right ≤ 2 ^ 90) where
+      inline_size-fits : AllSmall (inline_size band ∷ [])
+      inline_size-fits = let size = size-- band.right band.left in (omega (arith, size, left, right), tt)
 
       margin-fits : (l : Length) → IsLow tree page.low w small l → MarginFits tree w l band
-      margin-fits l i = (across-fits, subst (UsedFits tree w l) (sym same) (length-fits tree page.low w small k lengths wide l i))
+      margin-fits l i = (inline_size-fits, subst (UsedFits tree w l) (sym same) (length-fits tree page.low w small k lengths wide l i))
 
       inside-fits : InsideFits tree w band k
       inside-fits =
           let flow = (box-small tree w (2 ^ 42) k (properties-small tree page w small narrow flat k on is)).flow in (
-            across-fits,
+            inline_size-fits,
             (
               subst (BlockFits tree w k) (sym same) (block-fits tree page.low w small k lengths wide),
-              content-fits band.left (flow_widths tree w k (across band)) left (subst (λ (z : ℤ). AreWidthsSmall (2 ^ 42) (flow_widths tree w k z)) (sym same) flow),
+              content-fits band.left (flow_widths tree w k (inline_size band)) left (subst (λ (z : ℤ). AreWidthsSmall (2 ^ 42) (flow_widths tree w k z)) (sym same) flow),
             ),
           )
 

@@ -18,7 +18,7 @@ use Rattle.layout_semantics.specs.Order.{kids_of, roots, IsOnPage}
 use Rattle.layout_semantics.proofs.Forest.{IsKid}
 use Rattle.layout_semantics.proofs.Pages.{forest, root-alone, root_place, Each-contains, within-page}
 use Rattle.layout_laws.proofs.Upward.{container-by-parent, definite-by-container}
-use Rattle.lay_width.specs.Fitting.{HeightFits, MostHeightFits, HeldFits, OwnHeightFits, DefiniteFits_to, GivenFits}
+use Rattle.lay_width.specs.Fitting.{HeightFits, MostHeightFits, ClampedFits, OwnHeightFits, DefiniteFits_to, GivenFits}
 use Rattle.lay_length.proofs.SmallExtents.{IsLowTree}
 use Rattle.page_limits.specs.Boxes.{IsWhole}
 use Rattle.page_limits.proofs.WidthsCosts.{kind-at}
@@ -47,7 +47,7 @@ module _ (tree : BoxTree) (low : IsLowTree tree) (w : World) (small : w.s ≤ 25
     property-fits : HeightFits tree w around (own_height tree k)
     property-fits = height-fits around (own_height tree k) near lengths.height
 
-    limits-fit : HeldFits tree w k around
+    limits-fit : ClampedFits tree w k around
     limits-fit = (most-height-fits around (max_height_in (own_style tree k)) near lengths.max_height, (height-fits around (least_height tree k) near lengths.min_height, (omega arith, tt)))
 
     own-fits : OwnHeightFits tree w around k
@@ -169,7 +169,7 @@ module _ (tree : BoxTree) (page : IsFarPage tree) (w : World) (small : w.s ≤ 2
       let b = whole-on tree page w small narrow flat k on whole in
       (definite-fits (suc k) k on (omega arith), property-fits tree page.low w small k (lengths-of k b whole) (definite_height tree w k) (definite-low k b))
 
-  pub held-fits : (k : ℕ) → IsOnPage tree.boxes k → IsWhole tree k → HeldFits tree w k (definite_height tree w k)
-  held-fits k on whole =
+  pub clamped-fits : (k : ℕ) → IsOnPage tree.boxes k → IsWhole tree k → ClampedFits tree w k (definite_height tree w k)
+  clamped-fits k on whole =
       let b = whole-on tree page w small narrow flat k on whole in
       limits-fit tree page.low w small k (lengths-of k b whole) (definite_height tree w k) (definite-low k b)

@@ -225,24 +225,24 @@ module _ (tree : BoxTree) (low : IsLowTree tree) (first : IsBoxed tree 0) (w : W
       unfolding ShiftFits ShiftFits_to
       shift-fits at e x = by (slice_get tree.boxes at) refl
         where
-          alone : (b : Bool) → FitsBy at at e b None
-          alone true = (omega arith, tt)
-          alone false = (omega arith, tt)
+          independent : (b : Bool) → FitsBy at at e b None
+          independent true = (omega arith, tt)
+          independent false = (omega arith, tt)
 
           by : (o : Option BoxNode) → slice_get tree.boxes at ≡ o → FitsBy at at e (at == container) (parent_of tree.boxes at)
-          by None f = subst (λ (o : Option ℕ). FitsBy at at e (at == container) o) (sym (no-parent at f)) (alone (at == container))
+          by None f = subst (λ (o : Option ℕ). FitsBy at at e (at == container) o) (sym (no-parent at f)) (independent (at == container))
           by (Some b) f = let within = slice_get_within tree.boxes at b f in shift-fits-to (suc at) at e (omega (arith, within, few)) x
 
       pub shift-low : (at : ℕ) (e : LineExtent) → 2 * unsigned_abs (raised c at e) ≤ size_of e + 2 ^ 61
       unfolding raised shift_to
       shift-low at e = by (slice_get tree.boxes at) refl
         where
-          alone : (b : Bool) → 2 * unsigned_abs (ShiftBy at at e b None) ≤ size_of e + 2 ^ 61
-          alone true = omega arith
-          alone false = omega arith
+          independent : (b : Bool) → 2 * unsigned_abs (ShiftBy at at e b None) ≤ size_of e + 2 ^ 61
+          independent true = omega arith
+          independent false = omega arith
 
           by : (o : Option BoxNode) → slice_get tree.boxes at ≡ o → 2 * unsigned_abs (ShiftBy at at e (at == container) (parent_of tree.boxes at)) ≤ size_of e + 2 ^ 61
-          by None f = subst (λ (o : Option ℕ). 2 * unsigned_abs (ShiftBy at at e (at == container) o) ≤ size_of e + 2 ^ 61) (sym (no-parent at f)) (alone (at == container))
+          by None f = subst (λ (o : Option ℕ). 2 * unsigned_abs (ShiftBy at at e (at == container) o) ≤ size_of e + 2 ^ 61) (sym (no-parent at f)) (independent (at == container))
           by (Some b) f = let within = slice_get_within tree.boxes at b f in let size = shift-size (suc at) at e in omega (arith, within, few, size)
 
       -- an inline box, and a text

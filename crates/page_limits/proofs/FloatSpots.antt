@@ -32,7 +32,7 @@ module _ (b : Bounds) where
   bottoms : (floats : List FloatBox) → AllFloats floats → AllByRecursion (IsLevelIn b) (map (λ (f : FloatBox). f.box.bottom) floats)
   bottoms floats a = All-map (IsLevelIn b) (λ (f : FloatBox). f.box.bottom) floats (All-implied (IsFloatIn b) (λ f. IsLevelIn b f.box.bottom) floats (λ f i. i.bottom) a)
 
-  -- what floats leave of a stretch
+  -- what floats leave of a segment
   pub beside-in : (floats : List FloatBox) (cb : Band ℤ) → AllFloats floats → IsBandIn b cb → IsBandIn b (beside floats cb)
   beside-in floats cb a i = record {
     left = greatest_from-any (IsAsideIn b) cb.left (map (λ (f : FloatBox). f.box.right) (left_ones floats)) i.left

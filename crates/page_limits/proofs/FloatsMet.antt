@@ -144,7 +144,7 @@ module _ (c : InlineContext) (own rise : ℕ → Bounds) (s : ℕ) where
       (grown-twice most (float_charge at) (charges boxes))
       (meet-all base (grown most (float_charge at)) line held (meet c line held met at) boxes p a.1 (meet-one base most line held met at p a.0 m))
 
-  -- ---- in stretches
+  -- ---- in segments
 
   abbrev pub floats_in : List Item → Bounds
   floats_in items = charges (float_boxes items)

@@ -15,8 +15,8 @@ use Rattle.viz_base.specs.declared.trees.BoxTree.{BoxTree}
 use Rattle.viz_base.specs.declared.worlds.World.{World}
 use Rattle.viz_base.proofs.ListLemmas.{all_append}
 use Rattle.layout_semantics.specs.Floats.{FloatBox, floating, float_spot, with_float_at}
-use Rattle.layout_semantics.specs.Flow.{Cleared, Alone, Reached, content_height}
-use Rattle.layout_semantics.specs.FlowBoxes.{is_replaced_at, is_context_root, is_open_above, may_collapse_through, joins_last_child, flow_children, across, content_from}
+use Rattle.layout_semantics.specs.Flow.{Cleared, Independent, Reached, content_height}
+use Rattle.layout_semantics.specs.FlowBoxes.{is_replaced_at, is_context_root, is_open_above, may_collapse_through, joins_last_child, flow_children, inline_size, content_from}
 use Rattle.layout_semantics.specs.Horizontal.{widths}
 use Rattle.layout_semantics.specs.InlineContent.{is_floated_at, content}
 use Rattle.layout_semantics.specs.Leads.{none_passed, is_up_to}
@@ -33,7 +33,7 @@ use Rattle.flow_steps.specs.Flow.{Standing, at_top, below, Context, Step, step, 
 use Rattle.flow_steps.proofs.Sound.{IsSound, IsFlowKid}
 use Rattle.page_limits.specs.Bounds.{Bounds, AreInside, grown, no_bounds, all_around, together, IsLevelIn, IsAsideIn, IsBandIn, IsExtentIn, IsFloatIn, IsPlacedIn, IsPutIn}
 use Rattle.page_limits.specs.Inline.{IsSmall}
-use Rattle.page_limits.specs.Boxes.{AreWidthsSmall, AreSidesSmall, IsWhole, IsBoxSmall, IsAloneIn}
+use Rattle.page_limits.specs.Boxes.{AreWidthsSmall, AreSidesSmall, IsWhole, IsBoxSmall, IsIndependentIn}
 use Rattle.page_limits.specs.Rises.{content_rise}
 use Rattle.page_limits.proofs.Levels.{level-wider, level-max, inside-grown, inside-more}
 use Rattle.page_limits.proofs.FloatSpots.{spot-in, at-spot}
@@ -43,18 +43,18 @@ use Rattle.page_limits.proofs.Rising.{rise-float, rise-box}
 use Rattle.page_limits.proofs.ContentBoxes.{flow-whole}
 use Rattle.page_limits.proofs.Ahead.{rise, Ahead, here, inside, later, Pending, ahead, gone, behind, IsPending, step-pending, match-pending, enter-pending}
 use Rattle.page_limits.proofs.WaysWithin.{IsRunLow, run-with, collapse-small, margin-small, IsBaseIn, IsSizeIn, IsBoxEndIn, way-in}
-use Rattle.page_limits.proofs.BoxesWithin.{box-wider, boxes-wider, boxes-put, top-in, placed-box-in, held-in, edge-in, raised-in, StandsIn, next-edge-in, context-bottom-in, block-bottom-in, none-low, joined-low}
+use Rattle.page_limits.proofs.BoxesWithin.{box-wider, boxes-wider, boxes-put, top-in, placed-box-in, clamped-in, edge-in, raised-in, StandsIn, next-edge-in, context-bottom-in, block-bottom-in, none-low, joined-low}
 
 inside-both : (b c more : Bounds) → AreInside b c → AreInside (grown b more) (grown c more)
 inside-both b c more i = let u = i.up in let d = i.down in let a = i.aside in record { up = omega (arith, u); down = omega (arith, d); aside = omega (arith, a) }
 
 module _ (tree : BoxTree) (w : World) (own turned : ℕ → Bounds) (s t : ℕ) (fine : 8 * t ≤ s)
-    (boxes : (k : ℕ) → IsOnPage tree.boxes k → IsWhole tree k → IsBoxSmall tree w t k) (apart : ℕ → Alone) (alone_in : (k : ℕ) → IsAloneIn (own k) s (apart k)) where
+    (boxes : (k : ℕ) → IsOnPage tree.boxes k → IsWhole tree k → IsBoxSmall tree w t k) (apart : ℕ → Independent) (independent_in : (k : ℕ) → IsIndependentIn (own k) s (apart k)) where
   abbrev pub rises : ℕ → Bounds
   rises k = rise tree own turned s k
 
   abbrev pub Kid : Band ℤ → ℕ → Type 0
-  Kid cb k = IsFlowKid tree w k (across cb)
+  Kid cb k = IsFlowKid tree w k (inline_size cb)
 
   -- ---- how far the flow has come
 
@@ -112,7 +112,7 @@ module _ (tree : BoxTree) (w : World) (own turned : ℕ → Bounds) (s t : ℕ) 
   pub float-in : (content : ℕ → Band ℤ → ℤ → Context → Step) (b : Bounds) (cb : Band ℤ) (top : ℤ) (c : Context) (k : ℕ) (ks : List ℕ) → is_floated_at tree k ≡ true → IsBandIn b cb → IsLevelIn b top → IsContextIn b (k ∷ ks) c
       → IsStepIn (grown b (rises k)) ks (float_child tree w content apart cb top c k)
   float-in content b cb top c k ks f band l h =
-      let a = alone_in k in
+      let a = independent_in k in
       let wide = grown b (all_around (2 * s)) in
       let i = inside-grown b (all_around (2 * s)) in
       let edge = next-edge-in b s c.standing (stands-in b (k ∷ ks) c.standing h.standing) in
@@ -151,7 +151,7 @@ module _ (tree : BoxTree) (w : World) (own turned : ℕ → Bounds) (s t : ℕ) 
 
     sized : (base : Base) (c : Context) (b : Bounds) (g : Waiting ℤ) → IsSizeIn tree w own turned s t fine boxes size base c.floats c.least b g
     unfolding size_in
-    sized base c b g = let a = alone_in g.at in record { wide = a.width; tall = a.height }
+    sized base c b g = let a = independent_in g.at in record { wide = a.width; tall = a.height }
 
     -- ---- the way forward from a box
 
@@ -257,11 +257,11 @@ module _ (tree : BoxTree) (w : World) (own turned : ℕ → Bounds) (s t : ℕ) 
       pub least : IsLevelIn (within b) (int_min f.corner.y (f.corner.y -ℤ f.v.margin_top))
       pub band : IsBandIn (within b) (content_from f.corner.x (record f.x { margin_left = pos 0 }))
 
-    pub frame-in : (b : Bounds) (cb : Band ℤ) (k : ℕ) (y : ℤ) → IsNext b cb k → IsLevelIn (near b) y → IsFrameIn b (frame_at tree w k (across cb) cb.left y)
+    pub frame-in : (b : Bounds) (cb : Band ℤ) (k : ℕ) (y : ℤ) → IsNext b cb k → IsLevelIn (near b) y → IsFrameIn b (frame_at tree w k (inline_size cb) cb.left y)
     frame-in b cb k y n l =
         let i = n.1 in
         let box = boxes k i.sound.page (flow-whole tree w k (i.flow n.2)) in
-        let f = frame_at tree w k (across cb) cb.left y in
+        let f = frame_at tree w k (inline_size cb) cb.left y in
         let x = subst (λ (z : ℤ). AreWidthsSmall t (widths tree w k z)) (sym i.sound.room) box.widths in
         let v = subst (λ (z : ℤ). AreSidesSmall t (verticals tree w k z)) (sym i.sound.room) box.sides in
         let top = top-in s t fine (near b) f v l in
@@ -325,19 +325,19 @@ module _ (tree : BoxTree) (w : World) (own turned : ℕ → Bounds) (s t : ℕ) 
         record { bottom = p.border.bottom; margins = run-with s run f.v.margin_bottom r (omega (arith, m, fine)); floats = floats; least = least; baseline = baseline; placed = (p, placed) }
 
     laid-replaced-in : (b : Bounds) (cb : Band ℤ) (c : Context) (k : ℕ) (ks : List ℕ) (y : ℤ) → IsNext b cb k → IsContextIn b (k ∷ ks) c → IsLevelIn (near b) y
-        → IsLaidIn (grown b (rises k)) (laid_replaced tree w content apart (across cb) c k (frame_at tree w k (across cb) cb.left y))
+        → IsLaidIn (grown b (rises k)) (laid_replaced tree w content apart (inline_size cb) c k (frame_at tree w k (inline_size cb) cb.left y))
     laid-replaced-in b cb c k ks y n h l =
         let i = n.1 in
-        let f = frame_at tree w k (across cb) cb.left y in
+        let f = frame_at tree w k (inline_size cb) cb.left y in
         let frame = frame-in b cb k y n l in
         let high = subst (λ (z : ℤ). IsSmall t (replaced_size tree w k z).height) (sym i.sound.room) (boxes k i.sound.page (flow-whole tree w k (i.flow n.2))).replaced in
-        let tall = (replaced_size tree w k (across cb)).height in
+        let tall = (replaced_size tree w k (inline_size cb)).height in
         let tt_ = frame.top.top in let tb = frame.top.bottom in
         let box = box-in b k f tall n.2 frame (record { top = omega (arith, ints, high, fine); bottom = omega (arith, ints, high, fine) }) in
         let begin = opened-in b c f (k ∷ ks) [] (below (content_top f) no_run false) frame h (frame.top, none-low s) in
         let wider = context-wider (within b) (grown b (rises k)) [] (opened tree w content apart c f (below (content_top f) no_run false))
         (inside-more (within b) (grown (inner b k) (all_around (0 * s))) (grown b (rises k)) (record { up = omega arith; down = omega arith; aside = omega arith }) (inner-in b k 0 (omega arith) n.2)) begin in
-        closed-in (grown b (rises k)) f false no_run (step (opened tree w content apart c f (below (content_top f) no_run false)) []) (replaced_box tree w k (across cb) f) frame.v (none-low s) box wider.floats wider.least wider.baseline tt
+        closed-in (grown b (rises k)) f false no_run (step (opened tree w content apart c f (below (content_top f) no_run false)) []) (replaced_box tree w k (inline_size cb) f) frame.v (none-low s) box wider.floats wider.least wider.baseline tt
 
     option-or-in : (b : Bounds) (x y : Option ℤ) → AllByRecursion (IsLevelIn b) (option_to_list x) → AllByRecursion (IsLevelIn b) (option_to_list y) → AllByRecursion (IsLevelIn b) (option_to_list (option_or x y))
     option-or-in b None y h k = k
@@ -350,18 +350,18 @@ module _ (tree : BoxTree) (w : World) (own turned : ℕ → Bounds) (s t : ℕ) 
     content-bottom b k top auto page whole l m =
         let wide = grown (inner b k) (all_around (2 * s)) in
         level-wider (grown wide (all_around s)) (grown (inner b k) (all_around (4 * s))) (top +ℤ content_height tree w k auto) (record { up = omega arith; down = omega arith; aside = omega arith })
-        (held-in s t fine wide top auto (content_height tree w k auto) ((boxes k page whole).held auto) (level-wider (within b) wide top (record { up = omega arith; down = omega arith; aside = omega arith }) l) m)
+        (clamped-in s t fine wide top auto (content_height tree w k auto) ((boxes k page whole).clamped auto) (level-wider (within b) wide top (record { up = omega arith; down = omega arith; aside = omega arith }) l) m)
 
     pub laid-context-in : (b : Bounds) (cb : Band ℤ) (c : Context) (k : ℕ) (ks : List ℕ) (y : ℤ) → IsInside k → IsNext b cb k → IsContextIn b (k ∷ ks) c → IsLevelIn (near b) y
-        → IsLaidIn (grown b (rises k)) (laid_context tree w content apart cb c k (frame_at tree w k (across cb) cb.left y))
+        → IsLaidIn (grown b (rises k)) (laid_context tree w content apart cb c k (frame_at tree w k (inline_size cb) cb.left y))
     laid-context-in b cb c k ks y again n h l =
         let i = n.1 in
-        let f = frame_at tree w k (across cb) cb.left y in
+        let f = frame_at tree w k (inline_size cb) cb.left y in
         let frame = frame-in b cb k y n l in
         let top = content_top f in
         let begun : IsContextIn (within b) (flow_children tree k) (fresh top) = record { standing = (frame.top, none-low s); floats = tt; least = tt; baseline = tt } in
         let end = content k (content_from cb.left f.x) top (fresh top) in
-        let done = again (within b) cb.left (across cb) top (fresh top) i.sound n.0 (inner-band cb.left b f refl frame) frame.top begun in
+        let done = again (within b) cb.left (inline_size cb) top (fresh top) i.sound n.0 (inner-band cb.left b f refl frame) frame.top begun in
         let low = context-bottom-in (inner b k) s top end.context (level-wider (within b) (inner b k) top (inside-grown (within b) (content_rise tree own turned s k)) frame.top) (stands-in (inner b k) [] end.context.standing done.context.standing) done.context.floats in
         let box = box-in b k f (content_height tree w k (context_height top end.context)) n.2 frame (content-bottom b k top (context_height top end.context) i.sound.page (flow-whole tree w k (i.flow n.2)) frame.top low) in
         let after = grown b (rises k) in
@@ -374,16 +374,16 @@ module _ (tree : BoxTree) (w : World) (own turned : ℕ → Bounds) (s t : ℕ) 
         wider.floats wider.least (option-or-in after end.context.baseline c.baseline inner_end.context.baseline outer.baseline) inner_end.placed
 
     pub block-in : (b : Bounds) (cb : Band ℤ) (c : Context) (k : ℕ) (ks : List ℕ) (y : ℤ) (st : Standing) → IsInside k → IsNext b cb k → IsContextIn b (k ∷ ks) c → IsLevelIn (near b) y → IsStandingIn (within b) (flow_children tree k) st
-        → (through : Bool) → let f = frame_at tree w k (across cb) cb.left y in let end = content k (content_from cb.left f.x) (content_top f) (opened tree w content apart c f st) in
+        → (through : Bool) → let f = frame_at tree w k (inline_size cb) cb.left y in let end = content k (content_from cb.left f.x) (content_top f) (opened tree w content apart c f st) in
         IsLaidIn (grown b (rises k)) (closed tree w content apart f through (joined_run (joins_last_child tree k) end.context.standing) end (block_box tree w k f end.context))
     block-in b cb c k ks y st again n h l q through =
         let i = n.1 in
-        let f = frame_at tree w k (across cb) cb.left y in
+        let f = frame_at tree w k (inline_size cb) cb.left y in
         let frame = frame-in b cb k y n l in
         let top = content_top f in
         let begun = opened-in b c f (k ∷ ks) (flow_children tree k) st frame h q in
         let end = content k (content_from cb.left f.x) top (opened tree w content apart c f st) in
-        let done = again (within b) cb.left (across cb) top (opened tree w content apart c f st) i.sound n.0 (inner-band cb.left b f refl frame) frame.top begun in
+        let done = again (within b) cb.left (inline_size cb) top (opened tree w content apart c f st) i.sound n.0 (inner-band cb.left b f refl frame) frame.top begun in
         let stands_ = stands-in (inner b k) [] end.context.standing done.context.standing in
         let low = block-bottom-in (inner b k) s (joins_last_child tree k) top end.context.standing (level-wider (within b) (inner b k) top (inside-grown (within b) (content_rise tree own turned s k)) frame.top) stands_ in
         let auto = block_height (joins_last_child tree k) top end.context.standing in
@@ -394,11 +394,11 @@ module _ (tree : BoxTree) (w : World) (own turned : ℕ → Bounds) (s t : ℕ) 
         inner_end.context.floats inner_end.context.least inner_end.context.baseline inner_end.placed
 
     pub laid-block-in : (b : Bounds) (cb : Band ℤ) (c : Context) (k : ℕ) (ks : List ℕ) (y : ℤ) (pending : Cleared) → IsInside k → IsNext b cb k → IsContextIn b (k ∷ ks) c → IsLevelIn (near b) y → IsPending tree own turned s (near b) (k ∷ ks) pending
-        → IsLaidIn (grown b (rises k)) (laid_block tree w content apart cb c k pending (frame_at tree w k (across cb) cb.left y))
+        → IsLaidIn (grown b (rises k)) (laid_block tree w content apart cb c k pending (frame_at tree w k (inline_size cb) cb.left y))
     laid-block-in b cb c k ks y pending again n h l p = by (is_open_above tree k) refl
       where
         f : Frame
-        f = frame_at tree w k (across cb) cb.left y
+        f = frame_at tree w k (inline_size cb) cb.left y
 
         frame : IsFrameIn b f
         frame = frame-in b cb k y n l

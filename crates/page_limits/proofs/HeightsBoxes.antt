@@ -11,14 +11,14 @@ use Rattle.viz_base.specs.declared.trees.BoxTree.{BoxTree}
 use Rattle.viz_base.specs.declared.worlds.World.{World}
 use Rattle.layout_semantics.specs.DefiniteHeights.{least_height, height_around, given_height, definite_height}
 use Rattle.layout_semantics.specs.FlowBoxes.{room}
-use Rattle.layout_semantics.specs.Lengths.{used, maximum, held, own, own_style}
+use Rattle.layout_semantics.specs.Lengths.{used, maximum, clamped, own, own_style}
 use Rattle.layout_semantics.specs.Replaced.{intrinsic, by_ratio, replaced_size, replaced_height}
 use Rattle.layout_laws.specs.Terms.{own_width, own_maximum, own_minimum}
 use Rattle.layout_laws.proofs.Reaching.{ratio_least}
 use Rattle.layout_laws.proofs.TreeFacts.{slice_in}
 use Rattle.lay_preferred.proofs.SmallPages.{up-covers, by_ratio-size}
 use Rattle.lay_length.proofs.SmallExtents.{IsElementOf, own-is, own_low, by-groups, style-of}
-use Rattle.page_limits.proofs.WidthsCosts.{held-size, own-style-at, replaced-kind, lengths-far}
+use Rattle.page_limits.proofs.WidthsCosts.{clamped-size, own-style-at, replaced-kind, lengths-far}
 use Rattle.page_limits.proofs.WidthsTerms.{IsTerm, HasTerms, far, term-cost, width_in, min_width_in, height_in, used-of, style-terms}
 use Rattle.page_limits.proofs.WidthsLevels.{IsFarPage, HasLevel, near-times, height-near, least_height-near}
 use Rattle.page_limits.proofs.WidthsPage.{IsBoxOn, bounded}
@@ -141,21 +141,21 @@ module _ (tree : BoxTree) (page : IsFarPage tree) (w : World) (small : w.s ≤ 2
           let most = own_low tree page.low w small b.x (slice_in tree.boxes k b.x b.place) in
           omega (arith, wide, part, most)
 
-      -- what is held is one of both, so that so many times it is too
-      held-times : (most : Option ℤ) (least h : ℤ) (t n : ℕ) → 0 < t → t * unsigned_abs least ≤ n → t * unsigned_abs h ≤ n → t * unsigned_abs (held most least h) ≤ n
-      held-times most least h t n some l m =
-          let size = held-size most least h (n / t) ((le-div_iff_mul-le some).1 (omega (arith, l))) ((le-div_iff_mul-le some).1 (omega (arith, m))) in
-          let times_it : t * unsigned_abs (held most least h) ≤ t * (n / t) = mul-le-mul_left t size in
+      -- what is clamped is one of both, so that so many times it is too
+      clamped-times : (most : Option ℤ) (least h : ℤ) (t n : ℕ) → 0 < t → t * unsigned_abs least ≤ n → t * unsigned_abs h ≤ n → t * unsigned_abs (clamped most least h) ≤ n
+      clamped-times most least h t n some l m =
+          let size = clamped-size most least h (n / t) ((le-div_iff_mul-le some).1 (omega (arith, l))) ((le-div_iff_mul-le some).1 (omega (arith, m))) in
+          let times_it : t * unsigned_abs (clamped most least h) ≤ t * (n / t) = mul-le-mul_left t size in
           let whole_is = div-mul-le_self n t in
           omega (arith, times_it, whole_is)
 
-      by_width-bounded : (size : ℕ × ℕ) → b.x.size ≡ Some size → unsigned_abs (by_ratio (held (own_maximum tree w k cb) (own_minimum tree w k cb) (unwrap_or (own_width tree w k cb) (pos (64 * size.0)))) size.0 size.1) ≤ 2 ^ 42
+      by_width-bounded : (size : ℕ × ℕ) → b.x.size ≡ Some size → unsigned_abs (by_ratio (clamped (own_maximum tree w k cb) (own_minimum tree w k cb) (unwrap_or (own_width tree w k cb) (pos (64 * size.0)))) size.0 size.1) ≤ 2 ^ 42
       by_width-bounded size e =
-          let v : ℤ = held (own_maximum tree w k cb) (own_minimum tree w k cb) (unwrap_or (own_width tree w k cb) (pos (64 * size.0))) in
+          let v : ℤ = clamped (own_maximum tree w k cb) (own_minimum tree w k cb) (unwrap_or (own_width tree w k cb) (pos (64 * size.0))) in
           let follows = by_width-size v size in
           let extent : ratio (Some size) * (64 * size.0 + 64 * size.1) ≤ 2 ^ 40 = subst (λ (o : Option (ℕ × ℕ)). ratio o * intrinsic_extent o ≤ 2 ^ 40) e intrinsic-times in
           let least : ratio (Some size) * unsigned_abs (own_minimum tree w k cb) ≤ 2 ^ 41 = subst (λ (o : Option (ℕ × ℕ)). ratio o * unsigned_abs (own_minimum tree w k cb) ≤ 2 ^ 41) e minimum-times in
-          let all = held-times (own_maximum tree w k cb) (own_minimum tree w k cb) (unwrap_or (own_width tree w k cb) (pos (64 * size.0))) (ratio (Some size)) (2 ^ 41) (ratio_least (Some size)) least (either (own_width tree w k cb) refl extent) in
+          let all = clamped-times (own_maximum tree w k cb) (own_minimum tree w k cb) (unwrap_or (own_width tree w k cb) (pos (64 * size.0))) (ratio (Some size)) (2 ^ 41) (ratio_least (Some size)) least (either (own_width tree w k cb) refl extent) in
           omega (arith, follows, extent, all)
         where
           either : (o : Option ℤ) → own_width tree w k cb ≡ o → ratio (Some size) * (64 * size.0 + 64 * size.1) ≤ 2 ^ 40 → ratio (Some size) * unsigned_abs (unwrap_or o (pos (64 * size.0))) ≤ 2 ^ 41
@@ -163,7 +163,7 @@ module _ (tree : BoxTree) (page : IsFarPage tree) (w : World) (small : w.s ≤ 2
           either (Some v) f l = subst (λ (o : Option (ℕ × ℕ)). ratio o * unsigned_abs v ≤ 2 ^ 41) e (width-times v f)
 
     abbrev follows : ℕ × ℕ → Option ℤ → ℤ
-    follows size given = by_ratio (held (own_maximum tree w k cb) (own_minimum tree w k cb) (unwrap_or (own_width tree w k cb) (option_map_or (λ h. by_ratio h size.1 size.0) given (pos (64 * size.0))))) size.0 size.1
+    follows size given = by_ratio (clamped (own_maximum tree w k cb) (own_minimum tree w k cb) (unwrap_or (own_width tree w k cb) (option_map_or (λ h. by_ratio h size.1 size.0) given (pos (64 * size.0))))) size.0 size.1
 
     -- where no height is given
     follows-bounded : given_height tree w k ≡ None → unsigned_abs (by_ratio (replaced_size tree w k cb).width (intrinsic tree k).0 (intrinsic tree k).1) ≤ 2 ^ 42
@@ -184,7 +184,7 @@ module _ (tree : BoxTree) (page : IsFarPage tree) (w : World) (small : w.s ≤ 2
     pub tall-bounded : unsigned_abs (replaced_size tree w k cb).height ≤ 2 ^ 42
     tall-bounded =
         let least = least-bounded in
-        held-size (maximum (height_around tree w (definite_height tree w k)) (own tree k (λ (s : Style). s.max_height) None)) least_is
+        clamped-size (maximum (height_around tree w (definite_height tree w k)) (own tree k (λ (s : Style). s.max_height) None)) least_is
         (replaced_height (intrinsic tree k) (replaced_size tree w k cb).width (given_height tree w k)) (2 ^ 42) (omega (arith, least)) (by (given_height tree w k) refl)
       where
         by : (o : Option ℤ) → given_height tree w k ≡ o → unsigned_abs (unwrap_or o (by_ratio (replaced_size tree w k cb).width (intrinsic tree k).0 (intrinsic tree k).1)) ≤ 2 ^ 42

@@ -19,7 +19,7 @@ use Rattle.viz_base.specs.declared.styles.Style.{Style}
 use Rattle.viz_base.specs.declared.trees.BoxTree.{BoxTree}
 use Rattle.viz_base.specs.declared.worlds.World.{World}
 use Rattle.layout_semantics.specs.Blocks.{kind_of, node_of, parent_of}
-use Rattle.layout_semantics.specs.Flow.{Alone}
+use Rattle.layout_semantics.specs.Flow.{Independent}
 use Rattle.layout_semantics.specs.FlowBoxes.{is_replaced_at, content_from, room}
 use Rattle.layout_semantics.specs.Fonts.{text_width}
 use Rattle.layout_semantics.specs.Horizontal.{widths}
@@ -34,11 +34,11 @@ use Rattle.layout_laws.proofs.Levels.{IsFrom, All-implied, inner_boxes-from}
 use Rattle.flow_steps.specs.Flow.{content_to, inner_size}
 use Rattle.flow_steps.proofs.Sound.{IsSound}
 use Rattle.page_limits.specs.Bounds.{Bounds, IsLevelIn}
-use Rattle.page_limits.specs.Boxes.{IsBoxSmall, IsWhole, IsAloneIn, IsPartOf, middle_of, IsInlineBoxSmall}
+use Rattle.page_limits.specs.Boxes.{IsBoxSmall, IsWhole, IsIndependentIn, IsPartOf, middle_of, IsInlineBoxSmall}
 use Rattle.page_limits.specs.Inline.{IsSmall, IsAtomIn, IsFontSmall, IsInlineSmall, IsTextSmall, IsFloatSmall, IsItemBoxSmall, IsItemSmall, IsContentSmall}
 use Rattle.page_limits.specs.Loads.{greatest_length}
-use Rattle.page_limits.proofs.ContentBoxes.{IsIn, ItemIn, content-items, IsHeldIn, held-in, IsNoInline, no-inlines, is-inline}
-use Rattle.page_limits.proofs.InnerTables.{held, not-held}
+use Rattle.page_limits.proofs.ContentBoxes.{IsIn, ItemIn, content-items, IsClampedIn, clamped-in, IsNoInline, no-inlines, is-inline}
+use Rattle.page_limits.proofs.InnerTables.{clamped, not-clamped}
 use Rattle.page_limits.specs.Raises.{AreRaisedBy}
 use Rattle.page_limits.proofs.Raised.{around, IsInLines, inline-raised, around-raised, other-raised}
 use Rattle.page_limits.proofs.InLines.{IsItemInLines, content-in-lines}
@@ -48,12 +48,12 @@ use Rattle.page_limits.proofs.PageWithin.{base_of, turned_of}
 module _ (tree : BoxTree) (w : World) where
   -- ---- a box apart, as it stands in a line
 
-  record IsInnerOf (own : Bounds) (a : Alone) (i : Inner ℤ) : Type 0 where
+  record IsInnerOf (own : Bounds) (a : Independent) (i : Inner ℤ) : Type 0 where
     wide : i.width ≡ a.size.width
     above : IsLevelIn own i.above
     tall : i.above +ℤ i.below ≡ a.size.height
 
-  inner-of : (own : Bounds) (apart : ℕ → Alone) (n k : ℕ) → IsAloneIn own greatest_length (apart k) → IsInnerOf own (apart k) (inner_size tree w (content_to tree w apart n) apart k)
+  inner-of : (own : Bounds) (apart : ℕ → Independent) (n k : ℕ) → IsIndependentIn own greatest_length (apart k) → IsInnerOf own (apart k) (inner_size tree w (content_to tree w apart n) apart k)
   inner-of own apart n k h = by (is_floated_at tree k || is_replaced_at tree k || own_of tree k (λ (s : Style). s.clips) false) (apart k).baseline refl refl h.baseline
     where
       whole : (h z : ℤ) → z +ℤ (h -ℤ z) ≡ h
@@ -103,12 +103,12 @@ module _ (tree : BoxTree) (w : World) where
 
   module _ (t : ℕ) (fine : 8 * t ≤ greatest_length) (boxes : (k : ℕ) → IsOnPage tree.boxes k → IsWhole tree k → IsBoxSmall tree w t k) (terms : (k : ℕ) → IsOnPage tree.boxes k → IsInlineBoxSmall tree w t k)
       (raises : ℕ → ℕ) (raised : AreRaisedBy tree w raises) (few_raises : (k : ℕ) → IsOnPage tree.boxes k → raises k ≤ t)
-      (own : ℕ → Bounds) (apart : ℕ → Alone) (alone_in : (k : ℕ) → IsAloneIn (own k) greatest_length (apart k)) (n k : ℕ) (left wide : ℤ) (sound : IsSound tree w k wide) where
+      (own : ℕ → Bounds) (apart : ℕ → Independent) (independent_in : (k : ℕ) → IsIndependentIn (own k) greatest_length (apart k)) (n k : ℕ) (left wide : ℤ) (sound : IsSound tree w k wide) where
     abbrev turned : ℕ → Bounds
     turned = turned_of tree w apart own
 
     abbrev c : InlineContext
-    c = line_context tree w own turned greatest_length t fine boxes apart alone_in n k left wide
+    c = line_context tree w own turned greatest_length t fine boxes apart independent_in n k left wide
 
     abbrev inside : ℤ
     inside = (widths tree w k wide).content
@@ -169,7 +169,7 @@ module _ (tree : BoxTree) (w : World) where
 
     no-inner : (at : ℕ) → sort_of tree at ≡ an_inline → inner_of c at ≡ None
     unfolding IsNoInline
-    no-inner at e = not-held inner_at at (length tree.boxes) (inner_boxes tree k) (λ a. All-at (IsNoInline tree w) (inner_boxes tree k) at (no-inlines tree w inside (content tree k) (content-items tree w k wide sound)) a e)
+    no-inner at e = not-clamped inner_at at (length tree.boxes) (inner_boxes tree k) (λ a. All-at (IsNoInline tree w) (inner_boxes tree k) at (no-inlines tree w inside (content tree k) (content-items tree w k wide sound)) a e)
 
     inline-small : (at : ℕ) → IsIn tree w inside at → IsInLines tree k at → sort_of tree at ≡ an_inline → IsInlineSmall c own turned greatest_length at
     inline-small at i l e =
@@ -201,22 +201,22 @@ module _ (tree : BoxTree) (w : World) where
     width-small : (at : ℕ) (part : List ℕ) → IsOnPage tree.boxes at → IsPartOf part (text_of tree at) → IsSmall greatest_length (text_width tree w (node_of tree at) part)
     width-small at part p q = let x = (terms at p).text part q in omega (arith, x, fine)
 
-    inner-held : (at : ℕ) → IsOnPage tree.boxes at → Contains (inner_boxes tree k) at → inner_of c at ≡ Some (inner_at at)
-    inner-held at p a = held inner_at at (length tree.boxes) (inner_boxes tree k) (within-page tree at p) a
+    inner-clamped : (at : ℕ) → IsOnPage tree.boxes at → Contains (inner_boxes tree k) at → inner_of c at ≡ Some (inner_at at)
+    inner-clamped at p a = clamped inner_at at (length tree.boxes) (inner_boxes tree k) (within-page tree at p) a
 
     atom-width : (at : ℕ) → IsOnPage tree.boxes at → Contains (inner_boxes tree k) at → IsSmall greatest_length (item_width c (atomic at))
     atom-width at p a =
-        let i = inner-of (own at) apart n at (alone_in at) in
-        let w_ = (alone_in at).width in
-        subst (λ (o : Option (Inner ℤ)). unsigned_abs (option_map_or (λ (j : Inner ℤ). j.width) o (pos 0)) ≤ greatest_length) (sym (inner-held at p a))
+        let i = inner-of (own at) apart n at (independent_in at) in
+        let w_ = (independent_in at).width in
+        subst (λ (o : Option (Inner ℤ)). unsigned_abs (option_map_or (λ (j : Inner ℤ). j.width) o (pos 0)) ≤ greatest_length) (sym (inner-clamped at p a))
         (subst (λ (z : ℤ). unsigned_abs z ≤ greatest_length) (sym i.wide) w_)
 
     float-small : (at : ℕ) → IsOnPage tree.boxes at → Contains (inner_boxes tree k) at → IsFloatSmall c own turned greatest_length at
     float-small at p a =
-        let i = inner-of (own at) apart n at (alone_in at) in
-        let w_ = (alone_in at).width in
-        let h = (alone_in at).height in
-        let same : float_size c at ≡ sized (inner_at at).width ((inner_at at).above +ℤ (inner_at at).below) = ap (λ (o : Option (Inner ℤ)). option_map_or (λ (j : Inner ℤ). sized j.width (j.above +ℤ j.below)) o (sized (pos 0) (pos 0))) (inner-held at p a) in
+        let i = inner-of (own at) apart n at (independent_in at) in
+        let w_ = (independent_in at).width in
+        let h = (independent_in at).height in
+        let same : float_size c at ≡ sized (inner_at at).width ((inner_at at).above +ℤ (inner_at at).below) = ap (λ (o : Option (Inner ℤ)). option_map_or (λ (j : Inner ℤ). sized j.width (j.above +ℤ j.below)) o (sized (pos 0) (pos 0))) (inner-clamped at p a) in
         record {
           width = subst (λ (x : Extent ℤ). unsigned_abs x.width ≤ greatest_length) (sym same) (subst (λ (z : ℤ). unsigned_abs z ≤ greatest_length) (sym i.wide) w_);
           height = subst (λ (x : Extent ℤ). IsLevelIn (own at) x.height) (sym same) (subst (IsLevelIn (own at)) (sym i.tall) h);
@@ -228,9 +228,9 @@ module _ (tree : BoxTree) (w : World) where
     -- by its own middle, or by its baseline
     atom-in : (at : ℕ) → IsOnPage tree.boxes at → IsInLines tree k at → Contains (inner_boxes tree k) at → (at == k) ≡ false → IsAtomIn (own at) (turned at) greatest_length (extent_in_line c at)
     atom-in at p l a apart_is =
-        let i = inner-of (own at) apart n at (alone_in at) in
+        let i = inner-of (own at) apart n at (independent_in at) in
         let e : LineExtent = made (inner_at at).above (inner_at at).below in
-        let same : box_extent c at ≡ e = ap (λ (o : Option (Inner ℤ)). option_map_or (λ (j : Inner ℤ). made j.above j.below) o (inline_extent tree w (node_of tree at))) (inner-held at p a) in
+        let same : box_extent c at ≡ e = ap (λ (o : Option (Inner ℤ)). option_map_or (λ (j : Inner ℤ). made j.above j.below) o (inline_extent tree w (node_of tree at))) (inner-clamped at p a) in
         subst (λ (z : LineExtent). IsAtomIn (own at) (turned at) greatest_length (made (z.above +ℤ shift c at z) (z.below -ℤ shift c at z))) (sym same)
         (by (own_of tree at (λ (s : Style). s.valign) of_valign.Baseline) refl i (shift-small at e p l apart_is))
       where
@@ -245,7 +245,7 @@ module _ (tree : BoxTree) (w : World) where
         by_base base f l near i =
             let e = made (inner_at at).above (inner_at at).below in
             subst (λ (z : ℤ). IsAtomIn (own at) (record { up = (own at).up - min (unsigned_abs (int_min z (pos 0))) (own at).up; down = (own at).down + min (unsigned_abs (int_min z (pos 0))) (own at).up; aside = (own at).aside }) greatest_length (made (e.above +ℤ shift c at e) (e.below -ℤ shift c at e))) (sym f)
-            (atom-by (own at) base (e.above +ℤ shift c at e) (e.below -ℤ shift c at e) (apart at).size.height t fine l near (sums e.above e.below (shift c at e) ∙ i.tall) (alone_in at).height)
+            (atom-by (own at) base (e.above +ℤ shift c at e) (e.below -ℤ shift c at e) (apart at).size.height t fine l near (sums e.above e.below (shift c at e) ∙ i.tall) (independent_in at).height)
 
         by_other : IsInnerOf (own at) (apart at) (inner_at at) → base_of tree w apart at ≡ (inner_at at).above → let e = made (inner_at at).above (inner_at at).below in middle_of c at e ≡ pos 0 → IsSmall t (shift c at e -ℤ middle_of c at e)
             → IsAtomIn (own at) (turned at) greatest_length (made (e.above +ℤ shift c at e) (e.below -ℤ shift c at e))
@@ -263,7 +263,7 @@ module _ (tree : BoxTree) (w : World) where
             let middle : middle_of c at e ≡ floor_of (height_of_extent e) 2 -ℤ e.above = rw f refl in
             let base : base_of tree w apart at ≡ floor_of (apart at).size.height 2 = rw f refl in
             let tall : floor_of (height_of_extent e) 2 ≡ floor_of (apart at).size.height 2 = ap (λ (z : ℤ). floor_of z 2) i.tall in
-            by_base (floor_of (apart at).size.height 2) base (half-in (own at) (apart at).size.height (alone_in at).height) (near e.above (shift c at e) (middle_of c at e) (floor_of (height_of_extent e) 2) (floor_of (apart at).size.height 2) middle tall h) i
+            by_base (floor_of (apart at).size.height 2) base (half-in (own at) (apart at).size.height (independent_in at).height) (near e.above (shift c at e) (middle_of c at e) (floor_of (height_of_extent e) 2) (floor_of (apart at).size.height 2) middle tall h) i
           where
             near : (x z m f g : ℤ) → m ≡ f -ℤ x → f ≡ g → unsigned_abs (z -ℤ m) ≤ t → unsigned_abs ((x +ℤ z) -ℤ g) ≤ t
             near x z m f g d e h = omega (arith, ints, d, e, h)
@@ -281,7 +281,7 @@ module _ (tree : BoxTree) (w : World) where
         by false e l = refl
         by true e l = absurd (let same : at ≡ k = grind (arith, nat_tests) in omega arith)
 
-    item-small : (i : Item) → ItemIn tree w inside i → IsHeldIn tree w (inner_boxes tree k) i → IsItemInLines tree k i → IsItemSmall c own turned greatest_length i
+    item-small : (i : Item) → ItemIn tree w inside i → IsClampedIn tree w (inner_boxes tree k) i → IsItemInLines tree k i → IsItemSmall c own turned greatest_length i
     unfolding ItemIn IsItemBoxSmall
     item-small (start at) p h l = record { width = start-width at p.0 p.1; box = inline-small at p.0 l p.1 }
     item-small (finish at) p h l = record { width = finish-width at p.0 p.1; box = tt }
@@ -291,7 +291,7 @@ module _ (tree : BoxTree) (w : World) where
     item-small (forced at) p h l = record { width = omega arith; box = tt }
     item-small (float at) p h l = record { width = omega arith; box = float-small at p.0.page h }
 
-    all-small : (items : List Item) → AllByRecursion (ItemIn tree w inside) items → AllByRecursion (IsHeldIn tree w (inner_boxes tree k)) items → AllByRecursion (IsItemInLines tree k) items
+    all-small : (items : List Item) → AllByRecursion (ItemIn tree w inside) items → AllByRecursion (IsClampedIn tree w (inner_boxes tree k)) items → AllByRecursion (IsItemInLines tree k) items
         → AllByRecursion (IsItemSmall c own turned greatest_length) items
     all-small [] a b d = tt
     all-small (i ∷ items) a b d = (item-small i a.0 b.0 d.0, all-small items a.1 b.1 d.1)
@@ -302,7 +302,7 @@ module _ (tree : BoxTree) (w : World) where
         let a = x.above in
         let b = x.below in
         record {
-          items = all-small (content tree k) (content-items tree w k wide sound) (held-in tree w (inner_boxes tree k) (content tree k) (λ x a. a)) (content-in-lines tree k);
+          items = all-small (content tree k) (content-items tree w k wide sound) (clamped-in tree w (inner_boxes tree k) (content tree k) (λ x a. a)) (content-in-lines tree k);
           above = omega (arith, a, fine);
           below = omega (arith, b, fine);
         }

@@ -53,10 +53,10 @@ module _ {A : Type 0} (f : ℕ → A) (at : ℕ) where
   none-there (suc n) (suc j) = none-there n j
 
   -- it has each of them
-  pub held : (n : ℕ) (ks : List ℕ) → at < n → Contains ks at → slice_index_or (table_of n (map (λ k. (k, f k)) ks)) at None ≡ Some (f at)
-  held n [] l i = no_member i
-  held n (k ∷ ks) l i = is-set (replicate n empty) (k ∷ ks) (subst (λ m. at < m) (sym (length-replicate n empty)) l) i
+  pub clamped : (n : ℕ) (ks : List ℕ) → at < n → Contains ks at → slice_index_or (table_of n (map (λ k. (k, f k)) ks)) at None ≡ Some (f at)
+  clamped n [] l i = no_member i
+  clamped n (k ∷ ks) l i = is-set (replicate n empty) (k ∷ ks) (subst (λ m. at < m) (sym (length-replicate n empty)) l) i
 
   -- and no other
-  pub not-held : (n : ℕ) (ks : List ℕ) → (Contains ks at → ⊥) → slice_index_or (table_of n (map (λ k. (k, f k)) ks)) at None ≡ None
-  not-held n ks i = is-unset (replicate (room_for n (map (λ k. (k, f k)) ks)) empty) ks i (none-there (room_for n (map (λ k. (k, f k)) ks)) at)
+  pub not-clamped : (n : ℕ) (ks : List ℕ) → (Contains ks at → ⊥) → slice_index_or (table_of n (map (λ k. (k, f k)) ks)) at None ≡ None
+  not-clamped n ks i = is-unset (replicate (room_for n (map (λ k. (k, f k)) ks)) empty) ks i (none-there (room_for n (map (λ k. (k, f k)) ks)) at)

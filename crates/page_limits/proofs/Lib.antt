@@ -11,7 +11,7 @@ pub mod WaysWithin
 pub mod BoxesWithin
 pub mod FlowWithin
 pub mod ContentWithin
-pub mod AloneWithin
+pub mod IndependentWithin
 pub mod Loads
 pub mod PageWithin
 pub mod InnerTables
@@ -38,7 +38,7 @@ pub mod HeightsBoxes
 pub mod HeightsSmall
 pub mod PageSmall
 pub mod FitsLengths
-pub mod FitsAcross
+pub mod FitsInlineSizes
 pub mod FitsHeights
 pub mod FitsBoxes
 pub mod FitsItems

@@ -20,7 +20,7 @@ use Rattle.viz_base.proofs.ListLemmas.{all_append}
 use Rattle.layout_semantics.specs.Blocks.{node_of, parent_of}
 use Rattle.layout_semantics.specs.InlineContent.{Item, start, finish, word, space, atomic, forced, float}
 use Rattle.layout_semantics.specs.Lengths.{used, total, margins, borders, paddings}
-use Rattle.layout_semantics.specs.Stretches.{without_leading, what_stays}
+use Rattle.layout_semantics.specs.Segments.{without_leading, what_stays}
 use Rattle.layout_semantics.specs.LineFilling.{item_width, band_width, width_held}
 use Rattle.layout_semantics.specs.LineHeights.{InlineContext, inline_shift}
 use Rattle.layout_semantics.specs.Fragments.{ItemPlace, SetLine, set_out, is_end_of, is_text_of, text_area, text_right, text_entry, text_fragment, grown as grown_quad, fragment_edges, around, inline_fragment, atomic_entry, float_entries, item_entries, spots_after, entries_after, opened_entries, line_entries}

@@ -42,7 +42,7 @@ module _ (c : InlineContext) (own rise : ℕ → Bounds) (s : ℕ) where
     pub under : (extent_in_line c at).above ≤ℤ above
     pub top : (pos 0 -ℤ pos (d.up + 3 * s)) ≤ℤ (above -ℤ (extent_in_line c at).above -ℤ pos (own at).up)
     pub low : (above -ℤ (extent_in_line c at).above +ℤ pos (own at).down) ≤ℤ pos (d.down + 3 * s)
-    pub alone : (pos (own at).down -ℤ (extent_in_line c at).above) ≤ℤ pos (d.down + s)
+    pub independent : (pos (own at).down -ℤ (extent_in_line c at).above) ≤ℤ pos (d.down + s)
     pub tall : ((extent_in_line c at).above +ℤ (extent_in_line c at).below) ≤ℤ pos ((own at).down + 2 * s)
     pub aside : (own at).aside ≤ d.aside
 
@@ -59,13 +59,13 @@ module _ (c : InlineContext) (own rise : ℕ → Bounds) (s : ℕ) where
   atom-more : (above other : ℤ) (d more : Bounds) (at : ℕ) → other ≤ℤ pos (more.down + s) → IsAtomBelow above d at
       → IsAtomBelow (int_max other above) (record { up = more.up + d.up; down = more.down + d.down; aside = more.aside + d.aside }) at
   atom-more above other d more at l h =
-      let a = h.under in let b = h.top in let e = h.low in let f = h.alone in let g = h.tall in let i = h.aside in
-      record { under = omega (arith, ints, clamps); top = omega (arith, ints, clamps); low = omega (arith, ints, clamps); alone = omega (arith, ints); tall = g; aside = omega (arith, i) }
+      let a = h.under in let b = h.top in let e = h.low in let f = h.independent in let g = h.tall in let i = h.aside in
+      record { under = omega (arith, ints, clamps); top = omega (arith, ints, clamps); low = omega (arith, ints, clamps); independent = omega (arith, ints); tall = g; aside = omega (arith, i) }
 
   atom-wider : (above : ℤ) (d more : Bounds) (at : ℕ) → IsAtomBelow above d at → IsAtomBelow above (record { up = more.up + d.up; down = more.down + d.down; aside = more.aside + d.aside }) at
   atom-wider above d more at h =
-      let a = h.under in let b = h.top in let e = h.low in let f = h.alone in let g = h.tall in let i = h.aside in
-      record { under = a; top = omega (arith, ints); low = omega (arith, ints); alone = omega (arith, ints); tall = g; aside = omega (arith, i) }
+      let a = h.under in let b = h.top in let e = h.low in let f = h.independent in let g = h.tall in let i = h.aside in
+      record { under = a; top = omega (arith, ints); low = omega (arith, ints); independent = omega (arith, ints); tall = g; aside = omega (arith, i) }
 
   item-more : (above other : ℤ) (d more : Bounds) (i : Item) → other ≤ℤ pos (more.down + s) → IsItemBelow above d i
       → IsItemBelow (int_max other above) (record { up = more.up + d.up; down = more.down + d.down; aside = more.aside + d.aside }) i
@@ -99,10 +99,10 @@ module _ (c : InlineContext) (own rise : ℕ → Bounds) (s : ℕ) where
           → IsAtomBelow (int_max (extent_in_line c at).above above) (record { up = (rise at).up + d.up; down = (rise at).down + d.down; aside = (rise at).aside + d.aside }) at
       by (inl z) =
           let u = i.up in let e = i.down in let a = i.aside in let f = i.from in let t = i.to in let g = i.tall in
-          record { under = omega (arith, ints, clamps); top = omega (arith, ints, clamps); low = omega (arith, ints, clamps); alone = omega (arith, ints); tall = g; aside = omega (arith, a) }
+          record { under = omega (arith, ints, clamps); top = omega (arith, ints, clamps); low = omega (arith, ints, clamps); independent = omega (arith, ints); tall = g; aside = omega (arith, a) }
       by (inr z) =
           let u = i.up in let e = i.down in let a = i.aside in let f = i.from in let t = i.to in let g = i.tall in
-          record { under = omega (arith, ints, clamps); top = omega (arith, ints, clamps); low = omega (arith, ints, clamps); alone = omega (arith, ints); tall = g; aside = omega (arith, a) }
+          record { under = omega (arith, ints, clamps); top = omega (arith, ints, clamps); low = omega (arith, ints, clamps); independent = omega (arith, ints); tall = g; aside = omega (arith, a) }
 
   -- the height above the baseline, with what it bounds
   pub record IsHighest (first : ℤ) (items : List Item) : Type 0 where
@@ -190,8 +190,8 @@ module _ (c : InlineContext) (own rise : ℕ → Bounds) (s : ℕ) where
   item-open above d z (word at text) l m h = tt
   item-open above d z (space at) l m h = tt
   item-open above d z (atomic at) l m h =
-      let a = h.under in let b = h.top in let e = h.low in let f = h.alone in let g = h.tall in
-      record { under = omega (arith, ints); top = omega (arith, ints); low = omega (arith, ints, clamps); alone = f; tall = g; aside = h.aside }
+      let a = h.under in let b = h.top in let e = h.low in let f = h.independent in let g = h.tall in
+      record { under = omega (arith, ints); top = omega (arith, ints); low = omega (arith, ints, clamps); independent = f; tall = g; aside = h.aside }
   item-open above d z (forced at) l m h = tt
   item-open above d z (float at) l m h = tt
 

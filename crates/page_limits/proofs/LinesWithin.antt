@@ -10,10 +10,10 @@ use Rattle.viz_base.specs.declared.layouts.Entry.TheVariants as of_entry
 use Rattle.viz_base.proofs.ListLemmas.{all_append, all_parts}
 use Rattle.layout_semantics.specs.Floats.{FloatBox, band_at, meets, candidate_tops}
 use Rattle.layout_semantics.specs.InlineContent.{Item, start, finish, word, space, atomic, forced, float, float_boxes, content, makes_line}
-use Rattle.layout_semantics.specs.Stretches.{stretches, is_break, may_part}
+use Rattle.layout_semantics.specs.Segments.{segments, is_break, may_part}
 use Rattle.layout_semantics.specs.LineHeights.{InlineContext, line_extent, height_of_extent, extended_boxes, tallest}
-use Rattle.layout_semantics.specs.LineFilling.{Met, Line, place_each, line_spot, with_spot, least_or, fits, meets_none, joined, before_line, met_after, stretches_held, width_held}
-use Rattle.layout_semantics.specs.Lines.{SoFar, LaidLines, opened_after, next_line, align_of, content_left, set_line, laid_line, laid_no_line, laid_stretches, laid_none, lines_to, before_all, lines_in}
+use Rattle.layout_semantics.specs.LineFilling.{Met, Line, place_each, line_spot, with_spot, least_or, fits, meets_none, joined, before_line, met_after, segments_held, width_held}
+use Rattle.layout_semantics.specs.Lines.{SoFar, LaidLines, opened_after, next_line, align_of, content_left, set_line, laid_line, laid_no_line, laid_segments, laid_none, lines_to, before_all, lines_in}
 use Rattle.layout_laws.proofs.Cuts.{cut-joined}
 use Rattle.layout_laws.proofs.Greatest.{least_from-any}
 use Rattle.layout_laws.proofs.Levels.{All-implied}
@@ -189,12 +189,12 @@ module _ (c : InlineContext) (own rise : ℕ → Bounds) (s : ℕ) where
         let room = band_at met.floats c.cb top line.tall in
         let room_in = beside-in bm (filter (meets top line.tall) met.floats) c.cb (All-filter (IsFloatIn bm) (meets top line.tall) met.floats m.there.floats) (band-wider b bm start n.band) in
         let room_most = band-wider bm most {cb = room} met_most room_in in
-        let held = width_held c items in
-        let held_in = held-within c own rise s items a in
-        let left = content_left c room held in
-        let left_in : unsigned_abs left ≤ bm.aside + unsigned_abs held = content-left-in bm.aside (align_of c.tree c.container) room held room_in.left room_in.right in
+        let clamped = width_held c items in
+        let clamped_in = held-within c own rise s items a in
+        let left = content_left c room clamped in
+        let left_in : unsigned_abs left ≤ bm.aside + unsigned_abs clamped = content-left-in bm.aside (align_of c.tree c.container) room clamped room_in.left room_in.right in
         let m_ = bm.aside + 2 * wide (length items) in
-        let set = set_line c (top +ℤ e.above) left held items late in
+        let set = set_line c (top +ℤ e.above) left clamped items late in
         let line_is : IsLineIn c own rise s e.above top d bm most m_ set = record {
           top_in = tm;
           from = from;
@@ -203,10 +203,10 @@ module _ (c : InlineContext) (own rise : ℕ → Bounds) (s : ℕ) where
           up = omega (arith, ru, mu, w);
           down = omega (arith, rd, md, w);
           aside = omega (arith, ra, ma, w);
-          left = omega (arith, left_in, held_in);
-          right = omega (arith, ints, left_in, held_in);
+          left = omega (arith, left_in, clamped_in);
+          right = omega (arith, ints, left_in, clamped_in);
         } in
-        let placed = stays-in c own rise s e.above d m_ left items (omega (arith, left_in, held_in)) a tall.each in
+        let placed = stays-in c own rise s e.above d m_ left items (omega (arith, left_in, clamped_in)) a tall.each in
         let base_level : IsLevelIn most (top +ℤ e.above) = record { top = omega (arith, ints, ru, mu, w); bottom = omega (arith, ints, rd, md, w) } in
         let quad : IsQuadIn most (record { left = room.left; top = top; right = room.right; bottom = bottom }) = record { left = room_most.left; top = level-wider bm most top met_most tm; right = room_most.right; bottom = level-wider bl most bottom bl_most bottom_in } in
         record {
@@ -261,7 +261,7 @@ module _ (c : InlineContext) (own rise : ℕ → Bounds) (s : ℕ) where
     dropped-in (suc n) (part ∷ parts) a = dropped-in n parts a.1
 
     next-in : (b : Bounds) (now : SoFar) (first : List Item) (parts : List (List Item)) (n : ℕ) → IsSoFarIn b now → AllParts (first ∷ parts)
-        → AreLaidIn (grown b (charge_of (joined (take (suc n) (first ∷ parts))))) (laid_stretches c now (next_line c (tallest c) now first (first ∷ parts)) (suc n))
+        → AreLaidIn (grown b (charge_of (joined (take (suc n) (first ∷ parts))))) (laid_segments c now (next_line c (tallest c) now first (first ∷ parts)) (suc n))
     next-in b now first parts n so a = by (list_any (makes_line c.tree) items) refl
       where
         items : List Item
@@ -309,7 +309,7 @@ module _ (c : InlineContext) (own rise : ℕ → Bounds) (s : ℕ) where
         met_next = met-after c own rise s b line first parts refl (part-floats (first ∷ parts) a) (suc n)
             (record { band = band-wider b base inside so.band; from = level-wider b base now.least inside so.from; at = top_in }) met
 
-        by : (t : Bool) → list_any (makes_line c.tree) items ≡ t → AreLaidIn (grown b (charge_of items)) (laid_stretches c now line (suc n))
+        by : (t : Bool) → list_any (makes_line c.tree) items ≡ t → AreLaidIn (grown b (charge_of items)) (laid_segments c now line (suc n))
         by true e = rw e (line-in b base now line items (met_after c line (suc n)) (any-some (makes_line c.tree) items e) so inside top_in met_next (taken-in (suc n) (first ∷ parts) a))
         by false e = rw e (no-line-in b now items so (taken-in (suc n) (first ∷ parts) a))
 
@@ -322,10 +322,10 @@ module _ (c : InlineContext) (own rise : ℕ → Bounds) (s : ℕ) where
     steps-in (suc lines) b now [] so a = none-in b now [] so
     steps-in (suc lines) b now (first ∷ parts) so a =
         let line = next_line c (tallest c) now first (first ∷ parts) in
-        let n = stretches_held c line in
+        let n = segments_held c line in
         let taken = joined (take n (first ∷ parts)) in
         let left = joined (drop n (first ∷ parts)) in
-        let one = laid_stretches c now line n in
+        let one = laid_segments c now line n in
         let one_in : AreLaidIn (grown b (charge_of taken)) one = next-in b now first parts _ so a in
         let rest = lines_to lines c (tallest c) one.after (drop n (first ∷ parts)) in
         let rest_in = steps-in lines (grown b (charge_of taken)) one.after (drop n (first ∷ parts)) one_in.after (dropped-in n (first ∷ parts) a) in
@@ -343,7 +343,7 @@ module _ (c : InlineContext) (own rise : ℕ → Bounds) (s : ℕ) where
         → AreLinesIn own (grown b (charge_of (content c.tree c.container))) (lines_in c y least floats)
     lines-within b y least floats band levels f =
         let items = content c.tree c.container in
-        let parts = stretches c.tree items in
+        let parts = segments c.tree items in
         let same = cut-joined (is_break (may_part c.tree)) [] items in
         let laid = lines_to (length parts) c (tallest c) (before_all y least floats) parts in
         let all = subst AllItems (sym same) small.items in

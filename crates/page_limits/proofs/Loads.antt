@@ -176,8 +176,8 @@ module _ (tree : BoxTree) where
         by true h e again = lines-few k
         by false h e again = children h e again
 
-    pub alone-few : (k : ℕ) → k < length tree.boxes → size_of (grown (all_around (32 * (greatest_length + 1))) (content_rise tree own turned greatest_length k)) + 2 * unit ≤ unit * load tree k
-    alone-few k l = let rise = rise-few (length tree.boxes) k l in let is = load-is k l in omega (arith, rise, is)
+    pub independent-few : (k : ℕ) → k < length tree.boxes → size_of (grown (all_around (32 * (greatest_length + 1))) (content_rise tree own turned greatest_length k)) + 2 * unit ≤ unit * load tree k
+    independent-few k l = let rise = rise-few (length tree.boxes) k l in let is = load-is k l in omega (arith, rise, is)
 
   -- ---- all boxes together
 

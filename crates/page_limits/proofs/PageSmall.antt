@@ -19,17 +19,17 @@ use Rattle.page_limits.proofs.HeightsSmall.{heights-bounded, fonts-bounded, rais
 module _ (tree : BoxTree) (page : IsFarPage tree) (w : World) (small : w.s ≤ 256) (narrow : w.w ≤ 16384) (flat : w.h ≤ 16384) where
   pub properties-small : (k : ℕ) → IsOnPage tree.boxes k → IsWhole tree k → ArePropertiesSmall tree w (2 ^ 42) k
   properties-small k on e =
-      let across = whole-bounded tree page w small narrow flat k on e in
+      let inline_size = whole-bounded tree page w small narrow flat k on e in
       let tall = heights-bounded tree page w small narrow flat k on e in
       record {
-        edges = across.edges;
-        width = across.width;
-        least = across.least;
-        preferred_least = across.preferred_least;
-        preferred_most = across.preferred_most;
-        replaced_width = across.replaced_width;
+        edges = inline_size.edges;
+        width = inline_size.width;
+        least = inline_size.least;
+        preferred_least = inline_size.preferred_least;
+        preferred_most = inline_size.preferred_most;
+        replaced_width = inline_size.replaced_width;
         replaced_height = tall.replaced_height;
-        sides = across.sides;
+        sides = inline_size.sides;
         given_height = tall.given_height;
         least_height = tall.least_height;
       }

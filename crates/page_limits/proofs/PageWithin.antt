@@ -15,8 +15,8 @@ use Rattle.viz_base.specs.declared.worlds.World.{World}
 use Rattle.viz_base.proofs.Truths.{and_first, and_second}
 use Rattle.layout_semantics.specs.Blocks.{kind_of}
 use Rattle.layout_semantics.specs.Flow as landed
-use Rattle.layout_semantics.specs.Flow.{Alone}
-use Rattle.layout_semantics.specs.FlowBoxes.{flow_children, across, content_from, room}
+use Rattle.layout_semantics.specs.Flow.{Independent}
+use Rattle.layout_semantics.specs.FlowBoxes.{flow_children, inline_size, content_from, room}
 use Rattle.layout_semantics.specs.Horizontal.{widths}
 use Rattle.layout_semantics.specs.InlineContent.{has_line, inner_boxes, is_floated_at, content}
 use Rattle.layout_semantics.specs.Lengths.{own}
@@ -27,19 +27,19 @@ use Rattle.layout_laws.proofs.Levels.{IsFrom, All-implied, inner_boxes-from}
 use Rattle.layout_laws.proofs.Members.{any_in, any_from}
 use Rattle.layout_laws.proofs.LeadLevels.{children-from}
 use Rattle.flow_steps.specs.Flow.{content_of, inner_size}
-use Rattle.flow_steps.specs.Tables.{outside_of, laid_at, nothing_alone}
+use Rattle.flow_steps.specs.Tables.{outside_of, laid_at, nothing_independent}
 use Rattle.flow_steps.proofs.Sound.{IsSound, inner_boxes-sound, flow-sound}
 use Rattle.flow_steps.proofs.InOrder.{box_before, whole_no_inline}
 use Rattle.flow_steps.proofs.Tables.{box-same}
 use Rattle.page_limits.specs.Bounds.{Bounds, no_bounds}
 use Rattle.page_limits.specs.Inline.{IsContentSmall}
-use Rattle.page_limits.specs.Boxes.{IsWhole, IsBoxSmall, IsAloneIn}
+use Rattle.page_limits.specs.Boxes.{IsWhole, IsBoxSmall, IsIndependentIn}
 use Rattle.page_limits.specs.Loads.{greatest_length, unit, load, size_of}
 use Rattle.page_limits.proofs.Levels.{All-filter}
 use Rattle.page_limits.proofs.ContentBoxes.{content-items, inner-whole, float-whole}
-use Rattle.page_limits.proofs.Loads.{IsFew, load-is, alone-few, load-rank, rank}
+use Rattle.page_limits.proofs.Loads.{IsFew, load-is, independent-few, load-rank, rank}
 use Rattle.page_limits.proofs.ContentWithin.{line_context}
-use Rattle.page_limits.proofs.AloneWithin.{alone_rise, alone-within}
+use Rattle.page_limits.proofs.IndependentWithin.{independent_rise, independent-within}
 
 -- ---- a table by a function
 
@@ -69,7 +69,7 @@ tabled-past f low (suc n) (suc k) d l = tabled-past f (low + 1) n k d (omega (ar
 -- ---- a box as it stands in a line
 
 -- the middle of a box, or its baseline, from its top
-abbrev pub base_of : BoxTree → World → (ℕ → Alone) → ℕ → ℤ
+abbrev pub base_of : BoxTree → World → (ℕ → Independent) → ℕ → ℤ
 base_of tree w apart k = by_align (own tree k (λ (s : Style). s.valign) of_valign.Baseline)
   where
     by_align : Valign → ℤ
@@ -77,10 +77,10 @@ base_of tree w apart k = by_align (own tree k (λ (s : Style). s.valign) of_vali
     by_align _ = (inner_size tree w (content_of tree w apart) apart k).above
 
 -- how far that is above the top, where it is
-abbrev pub turn_of : BoxTree → World → (ℕ → Alone) → (ℕ → Bounds) → ℕ → ℕ
+abbrev pub turn_of : BoxTree → World → (ℕ → Independent) → (ℕ → Bounds) → ℕ → ℕ
 turn_of tree w apart own k = min (unsigned_abs (int_min (base_of tree w apart k) (pos 0))) (own k).up
 
-abbrev pub turned_of : BoxTree → World → (ℕ → Alone) → (ℕ → Bounds) → ℕ → Bounds
+abbrev pub turned_of : BoxTree → World → (ℕ → Independent) → (ℕ → Bounds) → ℕ → Bounds
 turned_of tree w apart own k = record {
   up = (own k).up - turn_of tree w apart own k;
   down = (own k).down + turn_of tree w apart own k;
@@ -91,10 +91,10 @@ turned_of tree w apart own k = record {
 
 module _ (tree : BoxTree) (w : World) (t : ℕ) (fine : 8 * t ≤ greatest_length)
     (boxes : (k : ℕ) → IsOnPage tree.boxes k → IsWhole tree k → IsBoxSmall tree w t k)
-    (lines_small : (own : ℕ → Bounds) (apart : ℕ → Alone) (alone_in : (k : ℕ) → IsAloneIn (own k) greatest_length (apart k)) (n k : ℕ) (left wide : ℤ) → IsSound tree w k wide → has_line tree k ≡ true
-    → IsContentSmall (line_context tree w own (turned_of tree w apart own) greatest_length t fine boxes apart alone_in n k left wide) own (turned_of tree w apart own) greatest_length) where
-  abbrev pub right : ℕ → Alone
-  right k = landed.alone tree w (landed.flow tree w) k (room tree w k)
+    (lines_small : (own : ℕ → Bounds) (apart : ℕ → Independent) (independent_in : (k : ℕ) → IsIndependentIn (own k) greatest_length (apart k)) (n k : ℕ) (left wide : ℤ) → IsSound tree w k wide → has_line tree k ≡ true
+    → IsContentSmall (line_context tree w own (turned_of tree w apart own) greatest_length t fine boxes apart independent_in n k left wide) own (turned_of tree w apart own) greatest_length) where
+  abbrev pub right : ℕ → Independent
+  right k = landed.independent tree w (landed.flow tree w) k (room tree w k)
 
   abbrev pub Good : ℕ → Type 0
   Good k = IsSound tree w k (room tree w k) × IsWhole tree k
@@ -124,37 +124,37 @@ module _ (tree : BoxTree) (w : World) (t : ℕ) (fine : 8 * t ≤ greatest_lengt
       same k = grind (arith, nat_tests)
 
   -- the boxes after a number, as they are laid out
-  entry : ℕ → ℕ → Option Alone
+  entry : ℕ → ℕ → Option Independent
   entry low k = elim (nat_lt low k && is_good k) [ true ↦ Some (right k) | false ↦ None ]
 
-  pub table : ℕ → List (Option Alone)
+  pub table : ℕ → List (Option Independent)
   table low = tabled (entry low) 0 (length tree.boxes)
 
-  pub apart-from : (low k : ℕ) → ((laid_at (table low) k ≡ right k) × (low < k) × Good k) ⊎ (laid_at (table low) k ≡ nothing_alone)
+  pub apart-from : (low k : ℕ) → ((laid_at (table low) k ≡ right k) × (low < k) × Good k) ⊎ (laid_at (table low) k ≡ nothing_independent)
   unfolding table entry
   apart-from low k = by_place (nat_lt k (length tree.boxes)) refl
     where
       none : 0 + k ≡ k
       none = omega arith
 
-      at : k < length tree.boxes → laid_at (tabled (entry low) 0 (length tree.boxes)) k ≡ unwrap_or (entry low k) nothing_alone
-      at l = ap (λ (o : Option Alone). unwrap_or o nothing_alone) (tabled-at (entry low) 0 (length tree.boxes) k None l ∙ ap (entry low) none)
+      at : k < length tree.boxes → laid_at (tabled (entry low) 0 (length tree.boxes)) k ≡ unwrap_or (entry low k) nothing_independent
+      at l = ap (λ (o : Option Independent). unwrap_or o nothing_independent) (tabled-at (entry low) 0 (length tree.boxes) k None l ∙ ap (entry low) none)
 
-      by_entry : (b : Bool) → (nat_lt low k && is_good k) ≡ b → k < length tree.boxes → ((laid_at (tabled (entry low) 0 (length tree.boxes)) k ≡ right k) × (low < k) × Good k) ⊎ (laid_at (tabled (entry low) 0 (length tree.boxes)) k ≡ nothing_alone)
-      by_entry false e l = inr (at l ∙ ap (λ (b : Bool). unwrap_or (elim b as (λ _. Option Alone) [ true ↦ Some (right k) | false ↦ None ]) nothing_alone) e)
-      by_entry true e l = inl (at l ∙ ap (λ (b : Bool). unwrap_or (elim b as (λ _. Option Alone) [ true ↦ Some (right k) | false ↦ None ]) nothing_alone) e, (let f = and_first (nat_lt low k) (is_good k) e in grind (arith, nat_tests, f)), good-is k (and_second (nat_lt low k) (is_good k) e))
+      by_entry : (b : Bool) → (nat_lt low k && is_good k) ≡ b → k < length tree.boxes → ((laid_at (tabled (entry low) 0 (length tree.boxes)) k ≡ right k) × (low < k) × Good k) ⊎ (laid_at (tabled (entry low) 0 (length tree.boxes)) k ≡ nothing_independent)
+      by_entry false e l = inr (at l ∙ ap (λ (b : Bool). unwrap_or (elim b as (λ _. Option Independent) [ true ↦ Some (right k) | false ↦ None ]) nothing_independent) e)
+      by_entry true e l = inl (at l ∙ ap (λ (b : Bool). unwrap_or (elim b as (λ _. Option Independent) [ true ↦ Some (right k) | false ↦ None ]) nothing_independent) e, (let f = and_first (nat_lt low k) (is_good k) e in grind (arith, nat_tests, f)), good-is k (and_second (nat_lt low k) (is_good k) e))
 
-      by_place : (b : Bool) → nat_lt k (length tree.boxes) ≡ b → ((laid_at (tabled (entry low) 0 (length tree.boxes)) k ≡ right k) × (low < k) × Good k) ⊎ (laid_at (tabled (entry low) 0 (length tree.boxes)) k ≡ nothing_alone)
+      by_place : (b : Bool) → nat_lt k (length tree.boxes) ≡ b → ((laid_at (tabled (entry low) 0 (length tree.boxes)) k ≡ right k) × (low < k) × Good k) ⊎ (laid_at (tabled (entry low) 0 (length tree.boxes)) k ≡ nothing_independent)
       by_place true e = by_entry (nat_lt low k && is_good k) refl (grind (arith, nat_tests, e))
-      by_place false e = inr (ap (λ (o : Option Alone). unwrap_or o nothing_alone) (tabled-past (entry low) 0 (length tree.boxes) k None (grind (arith, nat_tests, e))))
+      by_place false e = inr (ap (λ (o : Option Independent). unwrap_or o nothing_independent) (tabled-past (entry low) 0 (length tree.boxes) k None (grind (arith, nat_tests, e))))
 
   served-at : (low k : ℕ) → low < k → Good k → right k ≡ laid_at (table low) k
   unfolding table entry
   served-at low k l g =
       let within = within-page tree k g.0.page in
       let e : (nat_lt low k && is_good k) ≡ true = ap (λ b. b && is_good k) (before low k l) ∙ good-from k g in
-      sym (ap (λ (o : Option Alone). unwrap_or o nothing_alone) (tabled-at (entry low) 0 (length tree.boxes) k None within ∙ ap (entry low) (none k))
-      ∙ ap (λ (b : Bool). unwrap_or (elim b as (λ _. Option Alone) [ true ↦ Some (right k) | false ↦ None ]) nothing_alone) e)
+      sym (ap (λ (o : Option Independent). unwrap_or o nothing_independent) (tabled-at (entry low) 0 (length tree.boxes) k None within ∙ ap (entry low) (none k))
+      ∙ ap (λ (b : Bool). unwrap_or (elim b as (λ _. Option Independent) [ true ↦ Some (right k) | false ↦ None ]) nothing_independent) e)
     where
       none : (k : ℕ) → 0 + k ≡ k
       none k = omega arith
@@ -179,7 +179,7 @@ module _ (tree : BoxTree) (w : World) (t : ℕ) (fine : 8 * t ≤ greatest_lengt
 
       inner : AllByRecursion (IsApart c) (inner_boxes tree c)
       inner = both (inner_boxes tree c) (inner_boxes-from tree c (forest tree))
-          (All-implied (λ k. IsSound tree w k (across (content_from (pos 0) (widths tree w c (room tree w c))))) (λ k. IsSound tree w k (room tree w k)) (inner_boxes tree c) (λ k i. own_sound k _ i) (inner_boxes-sound tree w c (pos 0) (room tree w c) g))
+          (All-implied (λ k. IsSound tree w k (inline_size (content_from (pos 0) (widths tree w c (room tree w c))))) (λ k. IsSound tree w k (room tree w k)) (inner_boxes tree c) (λ k i. own_sound k _ i) (inner_boxes-sound tree w c (pos 0) (room tree w c) g))
           (inner-whole tree w (widths tree w c (room tree w c)).content (content tree c) (content-items tree w c (room tree w c) g))
 
       flow : AllByRecursion (IsApart c) (filter (is_floated_at tree) (flow_children tree c))
@@ -199,58 +199,58 @@ module _ (tree : BoxTree) (w : World) (t : ℕ) (fine : 8 * t ≤ greatest_lengt
 
   pub record AreKnown (low : ℕ) : Type 0 where
     pub own : ℕ → Bounds
-    pub known : (k : ℕ) → low ≤ k → Good k → IsAloneIn (own k) greatest_length (right k)
+    pub known : (k : ℕ) → low ≤ k → Good k → IsIndependentIn (own k) greatest_length (right k)
     pub few : IsFew tree own
 
-  pub nothing-in : (b : Bounds) → IsAloneIn b greatest_length nothing_alone
+  pub nothing-in : (b : Bounds) → IsIndependentIn b greatest_length nothing_independent
   nothing-in b = record { width = omega arith; height = record { top = omega (arith, ints); bottom = omega (arith, ints) }; baseline = tt; boxes = tt }
 
-  pub turned-few : (apart : ℕ → Alone) (own : ℕ → Bounds) → IsFew tree own → IsFew tree (turned_of tree w apart own)
+  pub turned-few : (apart : ℕ → Independent) (own : ℕ → Bounds) → IsFew tree own → IsFew tree (turned_of tree w apart own)
   turned-few apart own f k l = let a = f k l in let n = turn (unsigned_abs (int_min (base_of tree w apart k) (pos 0))) (own k).up in omega (arith, a, n)
     where
       turn : (m n : ℕ) → min m n ≤ n
       turn m n = omega arith
 
   module _ (low : ℕ) (l : low < length tree.boxes) (a : AreKnown (suc low)) where
-    abbrev pub apart : ℕ → Alone
+    abbrev pub apart : ℕ → Independent
     apart k = laid_at (table low) k
 
     abbrev pub turned : ℕ → Bounds
     turned = turned_of tree w apart a.own
 
-    pub alone_in : (k : ℕ) → IsAloneIn (a.own k) greatest_length (apart k)
-    alone_in k = by (apart-from low k)
+    pub independent_in : (k : ℕ) → IsIndependentIn (a.own k) greatest_length (apart k)
+    independent_in k = by (apart-from low k)
       where
-        by : ((laid_at (table low) k ≡ right k) × (low < k) × Good k) ⊎ (laid_at (table low) k ≡ nothing_alone) → IsAloneIn (a.own k) greatest_length (laid_at (table low) k)
-        by (inl e) = let after = e.1 in subst (IsAloneIn (a.own k) greatest_length) (sym e.0) (a.known k (omega (arith, after)) e.2)
-        by (inr e) = subst (IsAloneIn (a.own k) greatest_length) (sym e) (nothing-in (a.own k))
+        by : ((laid_at (table low) k ≡ right k) × (low < k) × Good k) ⊎ (laid_at (table low) k ≡ nothing_independent) → IsIndependentIn (a.own k) greatest_length (laid_at (table low) k)
+        by (inl e) = let after = e.1 in subst (IsIndependentIn (a.own k) greatest_length) (sym e.0) (a.known k (omega (arith, after)) e.2)
+        by (inr e) = subst (IsIndependentIn (a.own k) greatest_length) (sym e) (nothing-in (a.own k))
 
     abbrev own_here : Bounds
-    own_here = alone_rise tree w a.own turned greatest_length t fine boxes apart alone_in (lines_small a.own apart alone_in) low
+    own_here = independent_rise tree w a.own turned greatest_length t fine boxes apart independent_in (lines_small a.own apart independent_in) low
 
     abbrev pub own_now : ℕ → Bounds
     own_now k = elim (k == low) as (λ _. Bounds) [ true ↦ own_here | false ↦ a.own k ]
 
-    here-known : Good low → IsAloneIn own_here greatest_length (right low)
+    here-known : Good low → IsIndependentIn own_here greatest_length (right low)
     here-known g =
-        subst (IsAloneIn own_here greatest_length) (sym (box-same tree w (table low) low (λ c m p b. served low c m p b) low (room tree w low) (omega arith) g.0))
-        (alone-within tree w a.own turned greatest_length t fine boxes apart alone_in (lines_small a.own apart alone_in) low (room tree w low) g.0 g.1 l)
+        subst (IsIndependentIn own_here greatest_length) (sym (box-same tree w (table low) low (λ c m p b. served low c m p b) low (room tree w low) (omega arith) g.0))
+        (independent-within tree w a.own turned greatest_length t fine boxes apart independent_in (lines_small a.own apart independent_in) low (room tree w low) g.0 g.1 l)
 
     one-more : AreKnown low
     one-more = record { own = own_now; known = known; few = few }
       where
-        known : (k : ℕ) → low ≤ k → Good k → IsAloneIn (own_now k) greatest_length (right k)
+        known : (k : ℕ) → low ≤ k → Good k → IsIndependentIn (own_now k) greatest_length (right k)
         known k m g = by (k == low) refl
           where
-            by : (b : Bool) → (k == low) ≡ b → IsAloneIn (elim b as (λ _. Bounds) [ true ↦ own_here | false ↦ a.own k ]) greatest_length (right k)
-            by true e = let same : low ≡ k = grind (arith, nat_tests) in subst (λ (x : ℕ). IsAloneIn own_here greatest_length (right x)) same (here-known (subst Good (sym same) g))
+            by : (b : Bool) → (k == low) ≡ b → IsIndependentIn (elim b as (λ _. Bounds) [ true ↦ own_here | false ↦ a.own k ]) greatest_length (right k)
+            by true e = let same : low ≡ k = grind (arith, nat_tests) in subst (λ (x : ℕ). IsIndependentIn own_here greatest_length (right x)) same (here-known (subst Good (sym same) g))
             by false e = a.known k (grind (arith, nat_tests)) g
 
         few : IsFew tree own_now
         few k m = by (k == low) refl
           where
             by : (b : Bool) → (k == low) ≡ b → size_of (elim b as (λ _. Bounds) [ true ↦ own_here | false ↦ a.own k ]) + 2 * unit ≤ unit * load tree k
-            by true e = let same : low ≡ k = grind (arith, nat_tests) in subst (λ (x : ℕ). size_of own_here + 2 * unit ≤ unit * load tree x) same (alone-few tree a.own turned a.few (turned-few apart a.own a.few) low l)
+            by true e = let same : low ≡ k = grind (arith, nat_tests) in subst (λ (x : ℕ). size_of own_here + 2 * unit ≤ unit * load tree x) same (independent-few tree a.own turned a.few (turned-few apart a.own a.few) low l)
             by false e = a.few k m
 
   none-known : AreKnown (length tree.boxes)
@@ -267,7 +267,7 @@ module _ (tree : BoxTree) (w : World) (t : ℕ) (fine : 8 * t ≤ greatest_lengt
   -- a box as it is laid out goes on by what it and all in it have, with all before it
   pub record IsKnownIn (k : ℕ) : Type 0 where
     pub own : Bounds
-    pub inside : IsAloneIn own greatest_length (right k)
+    pub inside : IsIndependentIn own greatest_length (right k)
     pub few : size_of own + unit * rank tree k ≤ unit * rank tree (length tree.boxes)
 
   pub known-in : (k : ℕ) → Good k → IsKnownIn k

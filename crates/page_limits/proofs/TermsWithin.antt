@@ -10,15 +10,15 @@ use Rattle.viz_base.specs.declared.styles.Style.{Style}
 use Rattle.viz_base.specs.declared.trees.BoxTree.{BoxTree}
 use Rattle.viz_base.specs.declared.worlds.World.{World}
 use Rattle.viz_base.specs.Styles.{nothing}
-use Rattle.layout_semantics.specs.DefiniteHeights.{given_height, held_height, definite_height, height_around, least_height}
+use Rattle.layout_semantics.specs.DefiniteHeights.{given_height, clamped_height, definite_height, height_around, least_height}
 use Rattle.layout_semantics.specs.Flow.{content_height}
 use Rattle.layout_semantics.specs.FlowBoxes.{room}
-use Rattle.layout_semantics.specs.Horizontal.{terms_around, sum_of, available, left_margin, fixed_terms, auto_terms, block_terms, shrink_to_fit, shrunk_terms, again_unless, at_most, at_least, held_terms, is_auto, Placing, block_flow, shrunk, replaced_block, replaced_shrunk, placing_of, flow_widths, widths}
+use Rattle.layout_semantics.specs.Horizontal.{terms_around, sum_of, available, left_margin, fixed_terms, auto_terms, block_terms, shrink_to_fit, shrunk_terms, again_unless, at_most, at_least, clamped_terms, is_auto, Placing, block_flow, shrunk, replaced_block, replaced_shrunk, placing_of, flow_widths, widths}
 use Rattle.layout_semantics.specs.Lengths.{used, used_unless_auto, maximum, own, margins}
 use Rattle.layout_semantics.specs.Preferred.{preferred}
 use Rattle.layout_semantics.specs.Replaced.{replaced_size}
-use Rattle.lay_length.proofs.SmallNumbers.{held-from, held-to}
-use Rattle.page_limits.specs.Boxes.{AreWidthsSmall, IsHeightHeld, IsBoxSmall, edges_at, IsWidthWithin, ArePropertiesSmall}
+use Rattle.lay_length.proofs.SmallNumbers.{clamped-from, clamped-to}
+use Rattle.page_limits.specs.Boxes.{AreWidthsSmall, IsHeightClamped, IsBoxSmall, edges_at, IsWidthWithin, ArePropertiesSmall}
 
 -- ---- numbers
 
@@ -138,10 +138,10 @@ module _ (tree : BoxTree) (w : World) (k : ℕ) (cb : ℤ) (most : ℕ) where
         rest : (cb inner ml mr : ℤ) (n : ℕ) → unsigned_abs cb + (unsigned_abs inner + (unsigned_abs ml + unsigned_abs mr)) ≤ n → unsigned_abs (cb -ℤ inner -ℤ ml) ≤ n
         rest cb inner ml mr n l = omega (arith, ints, l)
 
-    -- held by a maximum and a minimum
-    held-small : (terms : Option ℤ → Widths ℤ) → ((v : ℤ) → Within v → AreWidthsSmall most (terms (Some v))) → ((v : ℤ) → (terms (Some v)).content ≡ v)
+    -- clamped by a maximum and a minimum
+    clamped-small : (terms : Option ℤ → Widths ℤ) → ((v : ℤ) → Within v → AreWidthsSmall most (terms (Some v))) → ((v : ℤ) → (terms (Some v)).content ≡ v)
         → (least : ℤ) → Within least → (greatest : Option ℤ) (first : Widths ℤ) → AreWidthsSmall most first → Within first.content → AreWidthsSmall most (at_least terms least (at_most terms greatest first))
-    held-small terms good same least l greatest first f c = by_most greatest
+    clamped-small terms good same least l greatest first f c = by_most greatest
       where
         least-of : (x : Widths ℤ) → AreWidthsSmall most x → AreWidthsSmall most (at_least terms least x)
         least-of x a = by (int_le least x.content)
@@ -188,11 +188,11 @@ module _ (tree : BoxTree) (w : World) (k : ℕ) (cb : ℤ) (most : ℕ) where
         where
           by : (o : Option ℤ) → own_width ≡ o → AreWidthsSmall most (at_least (block_terms tree w k cb) least_width (at_most (block_terms tree w k cb) greatest_width (block_terms tree w k cb own_width)))
           by None e = subst (λ (o : Option ℤ). AreWidthsSmall most (at_least (block_terms tree w k cb) least_width (at_most (block_terms tree w k cb) greatest_width (block_terms tree w k cb o)))) (sym e)
-              (held-small (block_terms tree w k cb) fixed-small (λ v. refl) least_width least_in greatest_width (auto_terms tree w k cb) auto-small room-in)
+              (clamped-small (block_terms tree w k cb) fixed-small (λ v. refl) least_width least_in greatest_width (auto_terms tree w k cb) auto-small room-in)
           by (Some v) e = subst (λ (o : Option ℤ). AreWidthsSmall most (at_least (block_terms tree w k cb) least_width (at_most (block_terms tree w k cb) greatest_width (block_terms tree w k cb o)))) (sym e)
-              (held-small (block_terms tree w k cb) fixed-small (λ v. refl) least_width least_in greatest_width (fixed_terms tree w k cb v) (fixed-small v (given v e)) (given v e))
+              (clamped-small (block_terms tree w k cb) fixed-small (λ v. refl) least_width least_in greatest_width (fixed_terms tree w k cb v) (fixed-small v (given v e)) (given v e))
 
-      shrunk-small : Within (preferred tree w k).least → Within (preferred tree w k).most → AreWidthsSmall most (held_terms tree w k cb (shrunk_terms tree w k cb))
+      shrunk-small : Within (preferred tree w k).least → Within (preferred tree w k).most → AreWidthsSmall most (clamped_terms tree w k cb (shrunk_terms tree w k cb))
       shrunk-small pl pm = by own_width refl
         where
           fit : ℤ
@@ -206,9 +206,9 @@ module _ (tree : BoxTree) (w : World) (k : ℕ) (cb : ℤ) (most : ℕ) where
 
           by : (o : Option ℤ) → own_width ≡ o → AreWidthsSmall most (at_least (shrunk_terms tree w k cb) least_width (at_most (shrunk_terms tree w k cb) greatest_width (shrunk_terms tree w k cb own_width)))
           by None e = subst (λ (o : Option ℤ). AreWidthsSmall most (at_least (shrunk_terms tree w k cb) least_width (at_most (shrunk_terms tree w k cb) greatest_width (shrunk_terms tree w k cb o)))) (sym e)
-              (held-small (shrunk_terms tree w k cb) around-small (λ v. refl) least_width least_in greatest_width (terms_around tree w k cb fit) (around-small fit fit-in) fit-in)
+              (clamped-small (shrunk_terms tree w k cb) around-small (λ v. refl) least_width least_in greatest_width (terms_around tree w k cb fit) (around-small fit fit-in) fit-in)
           by (Some v) e = subst (λ (o : Option ℤ). AreWidthsSmall most (at_least (shrunk_terms tree w k cb) least_width (at_most (shrunk_terms tree w k cb) greatest_width (shrunk_terms tree w k cb o)))) (sym e)
-              (held-small (shrunk_terms tree w k cb) around-small (λ v. refl) least_width least_in greatest_width (terms_around tree w k cb v) (around-small v (given v e)) (given v e))
+              (clamped-small (shrunk_terms tree w k cb) around-small (λ v. refl) least_width least_in greatest_width (terms_around tree w k cb v) (around-small v (given v e)) (given v e))
 
       pub widths-small : Within (preferred tree w k).least → Within (preferred tree w k).most → Within (replaced_size tree w k cb).width → AreWidthsSmall most (widths tree w k cb)
       unfolding widths
@@ -216,7 +216,7 @@ module _ (tree : BoxTree) (w : World) (k : ℕ) (cb : ℤ) (most : ℕ) where
         where
           by : (p : Placing) → AreWidthsSmall most (elim p as (λ _. Widths ℤ) [
             | block_flow ↦ flow_widths tree w k cb
-            | shrunk ↦ held_terms tree w k cb (shrunk_terms tree w k cb)
+            | shrunk ↦ clamped_terms tree w k cb (shrunk_terms tree w k cb)
             | replaced_block ↦ fixed_terms tree w k cb (replaced_size tree w k cb).width
             | replaced_shrunk ↦ terms_around tree w k cb (replaced_size tree w k cb).width
           ])
@@ -232,7 +232,7 @@ box-small tree w most k p = record {
   widths = widths-small tree w k cb most p.edges p.width p.least p.preferred_least p.preferred_most p.replaced_width;
   flow = flow-small tree w k cb most p.edges p.width p.least;
   sides = p.sides;
-  held = held_in;
+  clamped = clamped_in;
   replaced = p.replaced_height;
 }
   where
@@ -248,18 +248,18 @@ box-small tree w most k p = record {
     least : ℤ
     least = unwrap_or (height_around tree w around (least_height tree k)) (pos 0)
 
-    by : (auto : ℤ) (o : Option ℤ) → given_height tree w k ≡ o → IsHeightHeld most auto (held_height tree w k (unwrap_or o auto))
+    by : (auto : ℤ) (o : Option ℤ) → given_height tree w k ≡ o → IsHeightClamped most auto (clamped_height tree w k (unwrap_or o auto))
     by auto None e =
-        let from = held-from greatest least auto in
-        let to = held-to greatest least auto in
+        let from = clamped-from greatest least auto in
+        let to = clamped-to greatest least auto in
         let l = p.least_height in
         record { from = omega (arith, ints, from, l); to = omega (arith, ints, clamps, to, l) }
     by auto (Some h) e =
-        let from = held-from greatest least h in
-        let to = held-to greatest least h in
+        let from = clamped-from greatest least h in
+        let to = clamped-to greatest least h in
         let l = p.least_height in
         let g = p.given_height h e in
         record { from = omega (arith, ints, from, l); to = omega (arith, ints, clamps, to, l, g) }
 
-    held_in : (auto : ℤ) → IsHeightHeld most auto (content_height tree w k auto)
-    held_in auto = by auto (given_height tree w k) refl
+    clamped_in : (auto : ℤ) → IsHeightClamped most auto (content_height tree w k auto)
+    clamped_in auto = by auto (given_height tree w k) refl

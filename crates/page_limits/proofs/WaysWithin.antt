@@ -12,7 +12,7 @@ use Rattle.viz_base.specs.declared.worlds.World.{World}
 use Rattle.viz_base.proofs.ListLemmas.{all_append, later_member}
 use Rattle.layout_semantics.specs.Clearance.{Base, hangs, stands, with_waiting, on_ground}
 use Rattle.layout_semantics.specs.Floats.{FloatBox, floating, with_float, lowest_bottom}
-use Rattle.layout_semantics.specs.FlowBoxes.{clear_of, may_collapse_through, flow_children, across}
+use Rattle.layout_semantics.specs.FlowBoxes.{clear_of, may_collapse_through, flow_children, inline_size}
 use Rattle.layout_semantics.specs.Horizontal.{flow_widths}
 use Rattle.layout_semantics.specs.InlineContent.{is_floated_at, has_line}
 use Rattle.layout_semantics.specs.Order.{IsOnPage}
@@ -61,7 +61,7 @@ module _ (tree : BoxTree) (w : World) (own turned : ℕ → Bounds) (s t : ℕ) 
   rises k = rise tree own turned s k
 
   abbrev Kid : Band ℤ → ℕ → Type 0
-  Kid cb k = IsFlowKid tree w k (across cb)
+  Kid cb k = IsFlowKid tree w k (inline_size cb)
 
   pub margin-small : (cb : Band ℤ) (k : ℕ) → Kid cb k → is_floated_at tree k ≡ false → IsSmall s (margin_above tree w cb k) × IsSmall s (margin_below tree w cb k)
   unfolding margin_above margin_below

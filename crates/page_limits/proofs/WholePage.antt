@@ -8,7 +8,7 @@ use Rattle.viz_base.specs.declared.renderings.Rendering.{Rendering}
 use Rattle.viz_base.specs.declared.trees.BoxNode.{BoxNode}
 use Rattle.viz_base.specs.declared.trees.BoxTree.{BoxTree}
 use Rattle.viz_base.specs.declared.worlds.World.{World}
-use Rattle.layout_semantics.specs.Flow.{whole_alone}
+use Rattle.layout_semantics.specs.Flow.{whole_independent}
 use Rattle.layout_semantics.specs.FlowBoxes.{room, room_to, room_inside}
 use Rattle.layout_semantics.specs.InlineContent.{text_of}
 use Rattle.layout_semantics.specs.Order.{roots, IsOnPage}
@@ -72,16 +72,16 @@ module _ (tree : BoxTree) (w : World) (root_whole : IsWhole tree 0) (boxes : (k 
   root-room = ap (λ (o : Option ℕ). option_map_or (λ parent. room_inside tree w parent (room_to 0 tree w parent)) o (pos (64 * w.w))) (root-alone tree)
 
   pub root-within : IsOnPage tree.boxes 0 → length tree.boxes ≤ 16384 → sum_by (λ (b : BoxNode). length (chars b.chars)) tree.boxes ≤ 524288
-      → AllByRecursion (IsPlacedIn (all_around (2 ^ 70))) (whole_alone tree w 0 (room tree w 0)).boxes
+      → AllByRecursion (IsPlacedIn (all_around (2 ^ 70))) (whole_independent tree w 0 (room tree w 0)).boxes
   root-within p l m =
       let k = known-in tree w (2 ^ 42) (omega arith) (λ k p q. box-small tree w (2 ^ 42) k (boxes k p q))
-      (λ own apart alone_in n k left wide i e. content-small tree w (2 ^ 42) (omega arith) (λ k p q. box-small tree w (2 ^ 42) k (boxes k p q)) terms raises.raises raises.each raises.all own apart alone_in n k left wide i) 0 (record { page = p; room = refl; block = root_no_inline tree }, root_whole) in
+      (λ own apart independent_in n k left wide i e. content-small tree w (2 ^ 42) (omega arith) (λ k p q. box-small tree w (2 ^ 42) k (boxes k p q)) terms raises.raises raises.each raises.all own apart independent_in n k left wide i) 0 (record { page = p; room = refl; block = root_no_inline tree }, root_whole) in
       let size = k.few in
       let all = few tree l m in
-      boxes-wider k.own (all_around (2 ^ 70)) (whole_alone tree w 0 (room tree w 0)).boxes (record { up = omega (arith, size, all); down = omega (arith, size, all); aside = omega (arith, size, all) }) k.inside.boxes
+      boxes-wider k.own (all_around (2 ^ 70)) (whole_independent tree w 0 (room tree w 0)).boxes (record { up = omega (arith, size, all); down = omega (arith, size, all); aside = omega (arith, size, all) }) k.inside.boxes
 
   abbrev rendered : List BoxNode → Rendering ℤ
-  rendered l = elim l as (λ _. Rendering ℤ) [ [] ↦ record { boxes = [] } | root ∷ rest ↦ record { boxes = (whole_alone tree w 0 (pos (64 * w.w))).boxes } ]
+  rendered l = elim l as (λ _. Rendering ℤ) [ [] ↦ record { boxes = [] } | root ∷ rest ↦ record { boxes = (whole_independent tree w 0 (pos (64 * w.w))).boxes } ]
 
   pub page-within : length tree.boxes ≤ 16384 → sum_by (λ (b : BoxNode). length (chars b.chars)) tree.boxes ≤ 524288 → AllByRecursion (IsPlacedIn (all_around (2 ^ 70))) (page_rendering tree w).boxes
   page-within l m = by tree.boxes refl
@@ -91,4 +91,4 @@ module _ (tree : BoxTree) (w : World) (root_whole : IsWhole tree 0) (boxes : (k 
       by (b ∷ bs) e =
           let page : IsOnPage tree.boxes 0 = IsOnPage.root 0 (subst (λ (l : List BoxNode). Contains (roots l) 0) (sym e) (0, omega arith, refl)) in
           subst (λ (bs : List BoxNode). AllByRecursion (IsPlacedIn (all_around (2 ^ 70))) (rendered bs).boxes) (sym e)
-          (subst (λ (z : ℤ). AllByRecursion (IsPlacedIn (all_around (2 ^ 70))) (whole_alone tree w 0 z).boxes) root-room (root-within page l m))
+          (subst (λ (z : ℤ). AllByRecursion (IsPlacedIn (all_around (2 ^ 70))) (whole_independent tree w 0 z).boxes) root-room (root-within page l m))

@@ -19,14 +19,14 @@ use Rattle.viz_base.specs.declared.worlds.World.{World}
 use Rattle.viz_base.proofs.ListLemmas.{slice_some}
 use Rattle.layout_semantics.specs.Blocks.{kind_of, style_of}
 use Rattle.layout_semantics.specs.InlineContent.{start_edges, end_edges}
-use Rattle.layout_semantics.specs.Lengths.{used_if_absolute, maximum, held, total, own_style}
+use Rattle.layout_semantics.specs.Lengths.{used_if_absolute, maximum, clamped, total, own_style}
 use Rattle.layout_semantics.specs.Preferred.{absolute_part, outer_width}
 use Rattle.layout_semantics.specs.Replaced.{intrinsic, by_ratio, preferred_replaced}
 use Rattle.layout_laws.proofs.Reaching.{ratio_least}
 use Rattle.lay_preferred.proofs.SmallPages.{by_ratio-size}
 use Rattle.lay_length.proofs.SmallExtents.{IsLowTree, IsElementOf, ext, own-is, style-of, by-groups}
 use Rattle.lay_length.proofs.SmallFonts.{em-up}
-use Rattle.lay_length.proofs.SmallNumbers.{size-max, size-between, held-from, held-to}
+use Rattle.lay_length.proofs.SmallNumbers.{size-max, size-between, clamped-from, clamped-to}
 use Rattle.page_limits.proofs.WidthsLists.{costs, costs-both}
 use Rattle.page_limits.proofs.WidthsTexts.{costs-sum, text-cost}
 use Rattle.page_limits.proofs.WidthsOrder.{rank, rank-of-list}
@@ -46,9 +46,9 @@ by_height-size size (Some h) n l = by_ratio-size h size.0 size.1 n l (ratio_leas
 
 -- ---- numbers
 
--- a number that is held is no larger than it was, or its minimum
-pub held-size : (most : Option ℤ) (least h : ℤ) (n : ℕ) → unsigned_abs least ≤ n → unsigned_abs h ≤ n → unsigned_abs (held most least h) ≤ n
-held-size most least h n l m = size-between least (int_max h least) (held most least h) n (held-from most least h) (held-to most least h) l (size-max h least n m l)
+-- a number that is clamped is no larger than it was, or its minimum
+pub clamped-size : (most : Option ℤ) (least h : ℤ) (n : ℕ) → unsigned_abs least ≤ n → unsigned_abs h ≤ n → unsigned_abs (clamped most least h) ≤ n
+clamped-size most least h n l m = size-between least (int_max h least) (clamped most least h) n (clamped-from most least h) (clamped-to most least h) l (size-max h least n m l)
 
 three : (a b c : ℤ) → unsigned_abs (a +ℤ (b +ℤ (c +ℤ pos 0))) ≤ unsigned_abs a + unsigned_abs b + unsigned_abs c
 three a b c = omega (arith, ints)
@@ -133,13 +133,13 @@ module _ (tree : BoxTree) (low : IsLowTree tree) (w : World) (small : w.s ≤ 25
       omega (arith, own, grown, once)
 
   abbrev outer_by : Style → ℤ → ℤ
-  outer_by s inside = held (maximum (used_if_absolute tree w) s.max_width) (absolute_part tree w s.min_width) inside
+  outer_by s inside = clamped (maximum (used_if_absolute tree w) s.max_width) (absolute_part tree w s.min_width) inside
       +ℤ total (map (absolute_part tree w) (s.margin.left ∷ s.border.left ∷ s.padding.left ∷ s.margin.right ∷ s.border.right ∷ s.padding.right ∷ []))
 
   outer_by-size : (s : Style) (inside : ℤ) (n : ℕ) → unsigned_abs inside ≤ n → far_of s.min_width ≤ n → unsigned_abs (outer_by s inside) ≤ n + edges_far s
   outer_by-size s inside n l m =
       let least = absolute-size s.min_width in
-      let h = held-size (maximum (used_if_absolute tree w) s.max_width) (absolute_part tree w s.min_width) inside n (omega (arith, least, m)) l in
+      let h = clamped-size (maximum (used_if_absolute tree w) s.max_width) (absolute_part tree w s.min_width) inside n (omega (arith, least, m)) l in
       let a = absolute-size s.margin.left in
       let b = absolute-size s.border.left in
       let c = absolute-size s.padding.left in
@@ -147,7 +147,7 @@ module _ (tree : BoxTree) (low : IsLowTree tree) (w : World) (small : w.s ≤ 25
       let e = absolute-size s.border.right in
       let f = absolute-size s.padding.right in
       let edges = six (absolute_part tree w s.margin.left) (absolute_part tree w s.border.left) (absolute_part tree w s.padding.left) (absolute_part tree w s.margin.right) (absolute_part tree w s.border.right) (absolute_part tree w s.padding.right) in
-      let sum = plus (held (maximum (used_if_absolute tree w) s.max_width) (absolute_part tree w s.min_width) inside)
+      let sum = plus (clamped (maximum (used_if_absolute tree w) s.max_width) (absolute_part tree w s.min_width) inside)
       (total (map (absolute_part tree w) (s.margin.left ∷ s.border.left ∷ s.padding.left ∷ s.margin.right ∷ s.border.right ∷ s.padding.right ∷ []))) in
       omega (arith, sum, h, edges, a, b, c, d, e, f)
 
@@ -182,7 +182,7 @@ module _ (tree : BoxTree) (low : IsLowTree tree) (w : World) (small : w.s ≤ 25
           on of_kind.Float e = let kind = kind-at tree k x place ∙ e in let at = style-at tree k x s place style in let own = own-style-at tree k x s (record { place = place; style = style; element = ap is_of_element e }) in rw (kind, at, own) (sized (ap is_of_element e))
           on of_kind.Atomic e = let kind = kind-at tree k x place ∙ e in let at = style-at tree k x s place style in let own = own-style-at tree k x s (record { place = place; style = style; element = ap is_of_element e }) in rw (kind, at, own) (sized (ap is_of_element e))
           on of_kind.Replaced e = let kind = kind-at tree k x place ∙ e in let at = style-at tree k x s place style in rw (kind, at) (kept (ap is_of_element e))
-          on of_kind.Anon e = let kind = kind-at tree k x place ∙ e in let own = no-style-at tree k kind in rw (kind, own) (let h = held-size None (pos 0) y (unsigned_abs y) (omega arith) (omega arith) in let sum = plus (held None (pos 0) y) (pos 0) in omega (arith, h, sum))
+          on of_kind.Anon e = let kind = kind-at tree k x place ∙ e in let own = no-style-at tree k kind in rw (kind, own) (let h = clamped-size None (pos 0) y (unsigned_abs y) (omega arith) (omega arith) in let sum = plus (clamped None (pos 0) y) (pos 0) in omega (arith, h, sum))
           on of_kind.Line e = absurd (let none = (tree.ok.each k x place).no_line in let line = ap is_line e in cc)
           on of_kind.Inline e = absurd (let is : is_fragmented (kind_of tree k) ≡ true = ap is_fragmented (kind-at tree k x place ∙ e) in cc)
           on of_kind.Chars e = absurd (let is : is_fragmented (kind_of tree k) ≡ true = ap is_fragmented (kind-at tree k x place ∙ e) in cc)
@@ -209,7 +209,7 @@ module _ (tree : BoxTree) (low : IsLowTree tree) (w : World) (small : w.s ≤ 25
   -- ---- replaced boxes
 
   abbrev replaced_by : Style → ℕ × ℕ → ℤ
-  replaced_by s size = held (maximum (used_if_absolute tree w) s.max_width) (absolute_part tree w s.min_width) (unwrap_or (used_if_absolute tree w s.width) (by_height size (used_if_absolute tree w s.height)))
+  replaced_by s size = clamped (maximum (used_if_absolute tree w) s.max_width) (absolute_part tree w s.min_width) (unwrap_or (used_if_absolute tree w s.width) (by_height size (used_if_absolute tree w s.height)))
 
   replaced_by-size : (s : Style) (size : ℕ × ℕ) (n : ℕ) → ratio (Some size) * (far_of s.height + (64 * size.0 + 64 * size.1)) ≤ n → unsigned_abs (replaced_by s size) ≤ far_of s.min_width + far_of s.width + n + 1
   replaced_by-size s size n l =
@@ -219,13 +219,13 @@ module _ (tree : BoxTree) (low : IsLowTree tree) (w : World) (small : w.s ≤ 25
       let wide = absolute-size s.width in
       let least = absolute-size s.min_width in
       let one = own-or (used_if_absolute tree w s.width) (by_height size (used_if_absolute tree w s.height)) in
-      held-size (maximum (used_if_absolute tree w) s.max_width) (absolute_part tree w s.min_width) (unwrap_or (used_if_absolute tree w s.width) (by_height size (used_if_absolute tree w s.height)))
+      clamped-size (maximum (used_if_absolute tree w) s.max_width) (absolute_part tree w s.min_width) (unwrap_or (used_if_absolute tree w s.width) (by_height size (used_if_absolute tree w s.height)))
       (far_of s.min_width + far_of s.width + n + 1) (omega (arith, least)) (omega (arith, one, wide, by))
 
   -- its own width, and that with its edges
   pub record IsReplacedCosted (k : ℕ) (x : BoxNode) : Type 0 where
     pub around : unsigned_abs (outer_width tree w k (preferred_replaced tree w k)) ≤ own_of x + 1
-    pub alone : unsigned_abs (preferred_replaced tree w k) ≤ own_of x + 1
+    pub independent : unsigned_abs (preferred_replaced tree w k) ≤ own_of x + 1
 
   pub replaced-costed : (k : ℕ) (x : BoxNode) → slice_get tree.boxes k ≡ Some x → x.kind ≡ of_kind.Replaced → IsReplacedCosted k x
   replaced-costed k x place e = let s = style-of tree low w small k x place in by s.0 s.1 x.size refl
@@ -248,7 +248,7 @@ module _ (tree : BoxTree) (low : IsLowTree tree) (w : World) (small : w.s ≤ 25
           let o = outer_by-size s (replaced_by s size) (far_of s.min_width + far_of s.width + n + 1) r (omega arith) in
           record {
             around = subst (λ z. unsigned_abs (outer_width tree w k z) ≤ own_of x + 1) (sym same) (rw (kind, at) (omega (arith, o, far)));
-            alone = subst (λ z. unsigned_abs z ≤ own_of x + 1) (sym same) (omega (arith, r, far));
+            independent = subst (λ z. unsigned_abs z ≤ own_of x + 1) (sym same) (omega (arith, r, far));
           }
 
   -- ---- all boxes
@@ -271,7 +271,7 @@ module _ (tree : BoxTree) (low : IsLowTree tree) (w : World) (small : w.s ≤ 25
     inlines = λ k l e. (let x = slice_some tree.boxes k l in let is = cost-is k x.0 x.1 in let all = inline-edges k x.0 x.1 (same-kind k x.0 of_kind.Inline x.1 e) in omega (arith, is, all));
     whole = λ k l e y. (let x = slice_some tree.boxes k l in let is = cost-is k x.0 x.1 in let all = whole-outer k x.0 x.1 e y in omega (arith, is, all));
     replaced = λ k l e. (let x = slice_some tree.boxes k l in let is = cost-is k x.0 x.1 in let all = (replaced-costed k x.0 x.1 (same-kind k x.0 of_kind.Replaced x.1 e)).around in omega (arith, is, all));
-    alone = λ k l e. (let x = slice_some tree.boxes k l in let is = cost-is k x.0 x.1 in let all = (replaced-costed k x.0 x.1 (same-kind k x.0 of_kind.Replaced x.1 e)).alone in omega (arith, is, all));
+    independent = λ k l e. (let x = slice_some tree.boxes k l in let is = cost-is k x.0 x.1 in let all = (replaced-costed k x.0 x.1 (same-kind k x.0 of_kind.Replaced x.1 e)).independent in omega (arith, is, all));
   }
 
   -- ---- together

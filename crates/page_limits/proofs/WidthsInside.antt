@@ -18,9 +18,9 @@ use Rattle.layout_semantics.specs.InlineContent.{Item, start, finish, word, spac
 use Rattle.layout_semantics.specs.Lengths.{total}
 use Rattle.layout_semantics.specs.Lists.{table_of}
 use Rattle.layout_semantics.specs.Order.{kids_of, document_order}
-use Rattle.layout_semantics.specs.Preferred.{Inside, a_replaced, inline_content, blocks, inside_of, absolute_part, outer_width, outer_preferred, preferred_item, preferred_stretch, preferred_floats, measured_width, least_inline, most_inline, with_most, as_children, block_widths, preferred_inline, preferred_blocks, preferred_to, preferred}
+use Rattle.layout_semantics.specs.Preferred.{Inside, a_replaced, inline_content, blocks, inside_of, absolute_part, outer_width, outer_preferred, preferred_item, preferred_segment, preferred_floats, measured_width, least_inline, most_inline, with_most, as_children, block_widths, preferred_inline, preferred_blocks, preferred_to, preferred}
 use Rattle.layout_semantics.specs.Replaced.{preferred_replaced}
-use Rattle.layout_semantics.specs.Stretches.{is_break, may_part, never, what_stays, stretches, pieces}
+use Rattle.layout_semantics.specs.Segments.{is_break, may_part, never, what_stays, segments, pieces}
 use Rattle.layout_semantics.proofs.Forest.{IsKid}
 use Rattle.layout_semantics.proofs.Orders.{document_order-is}
 use Rattle.layout_semantics.proofs.Pages.{forest}
@@ -42,9 +42,9 @@ module _ (tree : BoxTree) (w : World) where
     abbrev item_cost : Item → ℕ
     item_cost i = plain_cost i + float_cost i
 
-    stretch-size : (items : List Item) → IsSized (costs plain_cost items) (preferred_stretch tree w inner items)
+    segment-size : (items : List Item) → IsSized (costs plain_cost items) (preferred_segment tree w inner items)
     unfolding plain_cost
-    stretch-size items =
+    segment-size items =
         let all = total-size (preferred_item tree w inner) plain_cost (λ i. omega arith) (what_stays items) in
         let stays = stays-cost plain_cost items in
         omega (arith, all, stays)
@@ -75,21 +75,21 @@ module _ (tree : BoxTree) (w : World) where
     least-size n items l =
         let both = costs-both plain_cost float_cost items in
         let parts = parts-cost item_cost (is_break (may_part tree)) [] items in
-        greatest-size n (map (preferred_stretch tree w inner) (stretches tree items) ++ preferred_floats inner items)
-        (all_append (IsSized n) (map (preferred_stretch tree w inner) (stretches tree items)) (preferred_floats inner items)
-        (All-map (IsSized n) (preferred_stretch tree w inner) (stretches tree items)
-        (All-implied (λ part. costs item_cost part ≤ n) (λ part. IsSized n (preferred_stretch tree w inner part)) (stretches tree items)
-        (λ part m. (let size = stretch-size part in let split = costs-both plain_cost float_cost part in omega (arith, size, split, m)))
-        (each-within (costs item_cost) (stretches tree items) n (omega (arith, parts, l)))))
+        greatest-size n (map (preferred_segment tree w inner) (segments tree items) ++ preferred_floats inner items)
+        (all_append (IsSized n) (map (preferred_segment tree w inner) (segments tree items)) (preferred_floats inner items)
+        (All-map (IsSized n) (preferred_segment tree w inner) (segments tree items)
+        (All-implied (λ part. costs item_cost part ≤ n) (λ part. IsSized n (preferred_segment tree w inner part)) (segments tree items)
+        (λ part m. (let size = segment-size part in let split = costs-both plain_cost float_cost part in omega (arith, size, split, m)))
+        (each-within (costs item_cost) (segments tree items) n (omega (arith, parts, l)))))
         (each-float n items (omega (arith, both, l))))
 
     most-size : (n : ℕ) (items : List Item) → costs item_cost items ≤ n → IsSized n (most_inline tree w inner items)
     most-size n items l =
         let parts = parts-cost item_cost (is_break never) [] items in
-        greatest-size n (map (λ piece. preferred_stretch tree w inner piece +ℤ total (preferred_floats inner piece)) (pieces items))
-        (All-map (IsSized n) (λ piece. preferred_stretch tree w inner piece +ℤ total (preferred_floats inner piece)) (pieces items)
-        (All-implied (λ part. costs item_cost part ≤ n) (λ part. IsSized n (preferred_stretch tree w inner part +ℤ total (preferred_floats inner part))) (pieces items)
-        (λ part m. (let size = stretch-size part in let beside = floats-size part in let split = costs-both plain_cost float_cost part in omega (arith, ints, size, beside, split, m)))
+        greatest-size n (map (λ piece. preferred_segment tree w inner piece +ℤ total (preferred_floats inner piece)) (pieces items))
+        (All-map (IsSized n) (λ piece. preferred_segment tree w inner piece +ℤ total (preferred_floats inner piece)) (pieces items)
+        (All-implied (λ part. costs item_cost part ≤ n) (λ part. IsSized n (preferred_segment tree w inner part +ℤ total (preferred_floats inner part))) (pieces items)
+        (λ part m. (let size = segment-size part in let beside = floats-size part in let split = costs-both plain_cost float_cost part in omega (arith, ints, size, beside, split, m)))
         (each-within (costs item_cost) (pieces items) n (omega (arith, parts, l)))))
 
   -- ---- inline content, by the sizes of the boxes in it
@@ -146,7 +146,7 @@ module _ (tree : BoxTree) (w : World) where
           → unsigned_abs (total (map (absolute_part tree w) (start_edges tree k))) + unsigned_abs (total (map (absolute_part tree w) (end_edges tree k))) ≤ cost k
       pub whole : (k : ℕ) → k < length tree.boxes → is_fragmented (kind_of tree k) ≡ false → (x : ℤ) → unsigned_abs (outer_width tree w k x) ≤ cost k + unsigned_abs x
       pub replaced : (k : ℕ) → k < length tree.boxes → kind_of tree k ≡ of_kind.Replaced → unsigned_abs (outer_width tree w k (preferred_replaced tree w k)) ≤ cost k
-      pub alone : (k : ℕ) → k < length tree.boxes → kind_of tree k ≡ of_kind.Replaced → unsigned_abs (preferred_replaced tree w k) ≤ cost k
+      pub independent : (k : ℕ) → k < length tree.boxes → kind_of tree k ≡ of_kind.Replaced → unsigned_abs (preferred_replaced tree w k) ≤ cost k
 
     -- ---- sorts of boxes
 
@@ -387,7 +387,7 @@ module _ (tree : BoxTree) (w : World) where
       unfolding AreCapped kid_pair
       by-inside n k f l e a_replaced is =
           let kind = kind-of-inside k is in
-          let one = costed.alone k l kind in
+          let one = costed.independent k l kind in
           let two = costed.replaced k l kind in
           let all = cap-is k l in
           (record { least = omega (arith, one, all); most = omega (arith, one, all) }, record { least = omega (arith, two, all); most = omega (arith, two, all) })

@@ -10,7 +10,7 @@ use Rattle.layout_semantics.specs.InlineContent.{Item, start, finish, word, spac
 use Rattle.layout_semantics.specs.Lengths.{total}
 use Rattle.layout_semantics.specs.Lists.{table_of}
 use Rattle.layout_semantics.specs.Preferred.{Child, in_flow, floated, greatest, sums_from, leading_floats, block_widths, measured_width}
-use Rattle.layout_semantics.specs.Stretches.{cut_where, without_leading, what_stays}
+use Rattle.layout_semantics.specs.Segments.{cut_where, without_leading, what_stays}
 use mathlib.Core.List.{reverse_aux}
 
 -- ---- costs

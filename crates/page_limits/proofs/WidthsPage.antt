@@ -24,7 +24,7 @@ use Rattle.layout_semantics.specs.Replaced.{intrinsic, replaced_size}
 use Rattle.layout_semantics.proofs.Pages.{within-page}
 use Rattle.layout_laws.specs.Terms.{own_width, own_maximum, own_minimum}
 use Rattle.layout_laws.proofs.Reaching.{ratio_least}
-use Rattle.page_limits.proofs.WidthsCosts.{by_height, by_height-size, held-size, kind-at}
+use Rattle.page_limits.proofs.WidthsCosts.{by_height, by_height-size, clamped-size, kind-at}
 use Rattle.page_limits.proofs.WidthsTerms.{IsTerm, far, term-cost, height-cost, sides_at, width_in, height_in, used-of}
 use Rattle.page_limits.proofs.WidthsLevels.{IsFarPage, reach_of, reach-low, HasLevel, has_terms, level-of, preferred-far, IsPlaced, placed, next, near-once, near-times, edges-near, width-near, minimum-near}
 
@@ -179,7 +179,7 @@ module _ (tree : BoxTree) (page : IsFarPage tree) (w : World) (small : w.s ≤ 2
 
     pub replaced-bounded : unsigned_abs (replaced_size tree w k cb).width ≤ 2 ^ 41
     replaced-bounded =
-        held-size (own_maximum tree w k cb) (own_minimum tree w k cb) (unwrap_or (own_width tree w k cb) (by_height (intrinsic tree k) (given_height tree w k))) (2 ^ 41) minimum-bounded
+        clamped-size (own_maximum tree w k cb) (own_minimum tree w k cb) (unwrap_or (own_width tree w k cb) (by_height (intrinsic tree k) (given_height tree w k))) (2 ^ 41) minimum-bounded
         (either-size (own_width tree w k cb) (by_height (intrinsic tree k) (given_height tree w k)) (2 ^ 41) width-bounded by_height-bounded)
 
     -- ---- preferred widths

@@ -22,7 +22,7 @@ use Rattle.layout_laws.proofs.Reaching.{reach_bounded}
 use Rattle.lay_length.specs.Limits.{IsSmallPage}
 use Rattle.lay_length.proofs.SmallExtents.{low-tree}
 use Rattle.page_limits.specs.Boxes.{IsWhole}
-use Rattle.page_limits.specs.Across.{AreWidthsBounded, AreEdgesSmall}
+use Rattle.page_limits.specs.InlineSizes.{AreWidthsBounded, AreEdgesSmall}
 use Rattle.page_limits.proofs.WidthsLevels.{all_extents, IsFarPage}
 use Rattle.page_limits.proofs.WidthsPage.{whole-on, inline-on, edges-bounded, width-bounded, minimum-bounded, replaced-bounded, preferred-bounded, sides-bounded}
 

@@ -14,15 +14,15 @@ use Rattle.viz_base.specs.declared.styles.Style.{Style}
 use Rattle.viz_base.specs.declared.trees.BoxNode.{BoxNode}
 use Rattle.viz_base.specs.declared.trees.BoxTree.{BoxTree}
 use Rattle.viz_base.specs.declared.worlds.World.{World}
-use Rattle.layout_semantics.specs.DefiniteHeights.{own_height, least_height, height_around, held_around, own_height_around}
+use Rattle.layout_semantics.specs.DefiniteHeights.{own_height, least_height, height_around, clamped_around, own_height_around}
 use Rattle.layout_semantics.specs.Horizontal.{block_flow, shrunk, placing_of, widths, terms_around, available, block_terms, shrunk_terms}
 use Rattle.layout_semantics.specs.Lengths.{used, used_unless_auto, maximum, own_style, margins, borders, paddings, no_sides}
 use Rattle.layout_semantics.specs.Preferred.{preferred}
 use Rattle.layout_laws.specs.Terms.{own_width, own_maximum, own_minimum}
-use Rattle.layout_laws.proofs.HorizontalTerms.{block-held, shrunk-held}
+use Rattle.layout_laws.proofs.HorizontalTerms.{block-clamped, shrunk-clamped}
 use Rattle.lay_length.proofs.SmallExtents.{IsLowTree, IsElementOf, ext, used-size, by-groups, lengths-low}
 use Rattle.lay_length.proofs.SmallNumbers.{size-+, size--, size-max, size-min}
-use Rattle.page_limits.proofs.WidthsCosts.{held-size}
+use Rattle.page_limits.proofs.WidthsCosts.{clamped-size}
 
 -- ---- one level of a page
 
@@ -244,16 +244,16 @@ module _ (tree : BoxTree) (low : IsLowTree tree) (w : World) (small : w.s ≤ 25
       given-size v e = subst (λ z. unsigned_abs z ≤ n) (used-of (width_in (own_style tree k)) cb v e) wide
 
       pub block-size : placing_of tree k ≡ block_flow → unsigned_abs (widths tree w k cb).content ≤ n
-      block-size e = subst (λ z. unsigned_abs z ≤ n) (sym (block-held tree w k cb e))
-          (held-size (own_maximum tree w k cb) (own_minimum tree w k cb) (block_terms tree w k cb (own_width tree w k cb)).content n least (by (own_width tree w k cb) refl))
+      block-size e = subst (λ z. unsigned_abs z ≤ n) (sym (block-clamped tree w k cb e))
+          (clamped-size (own_maximum tree w k cb) (own_minimum tree w k cb) (block_terms tree w k cb (own_width tree w k cb)).content n least (by (own_width tree w k cb) refl))
         where
           by : (x : Option ℤ) → own_width tree w k cb ≡ x → unsigned_abs (block_terms tree w k cb x).content ≤ n
           by None e = let room = left-size cb in omega (arith, room, left)
           by (Some v) e = given-size v e
 
       pub shrunk-size : placing_of tree k ≡ shrunk → unsigned_abs (preferred tree w k).least ≤ n → unsigned_abs (preferred tree w k).most ≤ n → unsigned_abs (widths tree w k cb).content ≤ n
-      shrunk-size e a b = subst (λ z. unsigned_abs z ≤ n) (sym (shrunk-held tree w k cb e))
-          (held-size (own_maximum tree w k cb) (own_minimum tree w k cb) (shrunk_terms tree w k cb (own_width tree w k cb)).content n least (by (own_width tree w k cb) refl))
+      shrunk-size e a b = subst (λ z. unsigned_abs z ≤ n) (sym (shrunk-clamped tree w k cb e))
+          (clamped-size (own_maximum tree w k cb) (own_minimum tree w k cb) (shrunk_terms tree w k cb (own_width tree w k cb)).content n least (by (own_width tree w k cb) refl))
         where
           by : (x : Option ℤ) → own_width tree w k cb ≡ x → unsigned_abs (shrunk_terms tree w k cb x).content ≤ n
           by None e =
@@ -266,6 +266,6 @@ module _ (tree : BoxTree) (low : IsLowTree tree) (w : World) (small : w.s ≤ 25
     pub known-size : (around : Option ℤ) (n : ℕ) → size_if (height_around tree w around (least_height tree k)) ≤ n → size_if (height_around tree w around (own_height tree k)) ≤ n → size_if (own_height_around tree w around k) ≤ n
     known-size around n least h = by (height_around tree w around (own_height tree k)) h
       where
-        by : (x : Option ℤ) → size_if x ≤ n → size_if (option_map (held_around tree w around k) x) ≤ n
+        by : (x : Option ℤ) → size_if x ≤ n → size_if (option_map (clamped_around tree w around k) x) ≤ n
         by None l = omega arith
-        by (Some h) l = held-size (maximum (height_around tree w around) (option_map_or (λ (s : Style). s.max_height) (own_style tree k) None)) (unwrap_or (height_around tree w around (least_height tree k)) (pos 0)) h n least l
+        by (Some h) l = clamped-size (maximum (height_around tree w around) (option_map_or (λ (s : Style). s.max_height) (own_style tree k) None)) (unwrap_or (height_around tree w around (least_height tree k)) (pos 0)) h n least l

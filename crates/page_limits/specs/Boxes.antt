@@ -24,7 +24,7 @@ use Rattle.layout_semantics.specs.LineHeights.{InlineContext, LineExtent, height
 use Rattle.layout_semantics.specs.Preferred.{preferred}
 use Rattle.layout_semantics.specs.Replaced.{replaced_size}
 use Rattle.layout_semantics.specs.Verticals.{Verticals, verticals}
-use Rattle.layout_semantics.specs.Flow.{Alone, content_height}
+use Rattle.layout_semantics.specs.Flow.{Independent, content_height}
 use Rattle.page_limits.specs.Bounds.{Bounds, IsLevelIn, IsPlacedIn}
 use Rattle.page_limits.specs.Inline.{IsSmall}
 
@@ -49,8 +49,8 @@ pub record AreSidesSmall (t : ℕ) (v : Verticals) : Type 0 where
   pub border_bottom : IsSmall t v.border_bottom
   pub margin_bottom : IsSmall t v.margin_bottom
 
--- a height that is the box's own, or the content's, held by a minimum and a maximum
-pub record IsHeightHeld (t : ℕ) (auto height : ℤ) : Type 0 where
+-- a height that is the box's own, or the content's, clamped by a minimum and a maximum
+pub record IsHeightClamped (t : ℕ) (auto height : ℤ) : Type 0 where
   pub from : (pos 0 -ℤ pos t) ≤ℤ height
   pub to : height ≤ℤ int_max auto (pos t)
 
@@ -59,11 +59,11 @@ pub record IsBoxSmall (tree : BoxTree) (w : World) (t k : ℕ) : Type 0 where
   pub widths : AreWidthsSmall t (widths tree w k (room tree w k))
   pub flow : AreWidthsSmall t (flow_widths tree w k (room tree w k))
   pub sides : AreSidesSmall t (verticals tree w k (room tree w k))
-  pub held : (auto : ℤ) → IsHeightHeld t auto (content_height tree w k auto)
+  pub clamped : (auto : ℤ) → IsHeightClamped t auto (content_height tree w k auto)
   pub replaced : IsSmall t (replaced_size tree w k (room tree w k)).height
 
 -- a box in coordinates of its own
-pub record IsAloneIn (own : Bounds) (s : ℕ) (a : Alone) : Type 0 where
+pub record IsIndependentIn (own : Bounds) (s : ℕ) (a : Independent) : Type 0 where
   pub width : IsSmall s a.size.width
   pub height : IsLevelIn own a.size.height
   pub baseline : AllByRecursion (IsLevelIn own) (option_to_list a.baseline)

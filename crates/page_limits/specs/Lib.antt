@@ -4,5 +4,5 @@ pub mod Rises
 pub mod Boxes
 pub mod Loads
 pub mod Raises
-pub mod Across
+pub mod InlineSizes
 pub mod Tall

@@ -5,7 +5,7 @@ ghost use Rattle.layout_semantics.specs.Blocks.{kind_of};
 ghost use Rattle.layout_semantics.specs.Order.{IsOnPage};
 ghost use Rattle.lay_length.specs.Limits.{IsSmallPage};
 ghost use Rattle.page_limits.specs.Boxes.{IsWhole};
-ghost use Rattle.page_limits.specs.Across.{AreEdgesSmall, AreWidthsBounded};
+ghost use Rattle.page_limits.specs.InlineSizes.{AreEdgesSmall, AreWidthsBounded};
 
 use viz_base::{BoxTree, World};
 

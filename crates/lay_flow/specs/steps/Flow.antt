@@ -14,8 +14,8 @@ use Rattle.viz_base.specs.declared.worlds.World.{World}
 use Rattle.layout_semantics.specs.Blocks.{kind_of}
 use Rattle.layout_semantics.specs.Extremes.{greatest_from}
 use Rattle.layout_semantics.specs.Floats.{FloatBox, floating, float_spot, with_float_at}
-use Rattle.layout_semantics.specs.Flow.{Alone, Reached, Cleared, raised, content_height}
-use Rattle.layout_semantics.specs.FlowBoxes.{is_replaced_at, is_context_root, is_open_above, may_collapse_through, joins_last_child, flow_children, across, content_from, room}
+use Rattle.layout_semantics.specs.Flow.{Independent, Reached, Cleared, raised, content_height}
+use Rattle.layout_semantics.specs.FlowBoxes.{is_replaced_at, is_context_root, is_open_above, may_collapse_through, joins_last_child, flow_children, inline_size, content_from, room}
 use Rattle.layout_semantics.specs.InlineContent.{is_floated_at, has_line, inner_boxes}
 use Rattle.layout_semantics.specs.Leads.{is_up_to, none_passed}
 use Rattle.layout_semantics.specs.Lines.{LineList, lines_in}
@@ -106,7 +106,7 @@ module _ (tree : BoxTree) (w : World) where
       by_sort true false (at_top y cleared) = at_top y cleared
       by_sort true false (below edge run stuck) = below edge ended stuck
 
-module _ (tree : BoxTree) (w : World) (apart : ℕ → Alone) where
+module _ (tree : BoxTree) (w : World) (apart : ℕ → Independent) where
   -- the way forward from a box in a context
   abbrev pub forward_of : Base → (ℕ → Bool) → Band ℤ → Context → ℕ → Run ℤ → Found
   forward_of base passed cb s b run = forward (ground_of tree w apart base s) passed cb b run
@@ -167,7 +167,7 @@ module _ (tree : BoxTree) (w : World) (apart : ℕ → Alone) where
   unfoldable pub in_lines : ℕ → Band ℤ → ℤ → Context → Step
   in_lines b cb top s = step (after_lines s (lines_of b cb top s)) (flat_map entry_of (lines_of b cb top s).entries)
 
-module _ (tree : BoxTree) (w : World) (apart : ℕ → Alone) where
+module _ (tree : BoxTree) (w : World) (apart : ℕ → Independent) where
   -- what is in a box
   unfoldable pub content_of : ℕ → Band ℤ → ℤ → Context → Step
   content_of b cb top s = flow.content_of tree w apart b cb top s
@@ -198,10 +198,10 @@ module _ (tree : BoxTree) (w : World) (apart : ℕ → Alone) where
 
   unfoldable pub laid_of : Band ℤ → Context → ℕ → Reached → Laid
   laid_of cb s b r =
-      by_sort (frame_of tree w b (across cb) cb.left r.top) (is_replaced_at tree b) (is_context_root tree b)
+      by_sort (frame_of tree w b (inline_size cb) cb.left r.top) (is_replaced_at tree b) (is_context_root tree b)
     where
       by_sort : Frame → Bool → Bool → Laid
-      by_sort f true any = laid_replaced (across cb) s b f
+      by_sort f true any = laid_replaced (inline_size cb) s b f
       by_sort f false true = laid_context cb s b f
       by_sort f false false = laid_block cb s b r.cleared f
 
@@ -230,39 +230,39 @@ module _ (tree : BoxTree) (w : World) (apart : ℕ → Alone) where
 
 -- ---- boxes in coordinates of their own
 
-abbrev pub whole : Placed ℤ → Option ℤ → List (Placed ℤ) → Alone
+abbrev pub whole : Placed ℤ → Option ℤ → List (Placed ℤ) → Independent
 whole p baseline boxes = record { size = outer_extent p; baseline = baseline; boxes = p ∷ boxes }
 
 module _ (tree : BoxTree) (w : World) where
-  unfoldable pub replaced_alone : ℕ → ℤ → Frame → Alone
-  replaced_alone b room f = whole (replaced_of tree w b room f) None []
+  unfoldable pub replaced_independent : ℕ → ℤ → Frame → Independent
+  replaced_independent b room f = whole (replaced_of tree w b room f) None []
 
-  unfoldable pub context_alone : (ℕ → Alone) → ℕ → Frame → Alone
-  context_alone apart b f =
+  unfoldable pub context_independent : (ℕ → Independent) → ℕ → Frame → Independent
+  context_independent apart b f =
       by_content (content_of tree w apart b (content_from (pos 0) f.x) (content_top f) (fresh (content_top f)))
     where
-      by_content : Step → Alone
+      by_content : Step → Independent
       by_content end = whole (root_of tree w b f end.context) end.context.baseline end.boxes
 
-  unfoldable pub alone_of : (ℕ → Alone) → ℕ → ℤ → Alone
-  alone_of apart b room = elim (is_replaced_at tree b) [
-    | true ↦ replaced_alone b room (corner_of tree w b room)
-    | false ↦ context_alone apart b (corner_of tree w b room)
+  unfoldable pub independent_of : (ℕ → Independent) → ℕ → ℤ → Independent
+  independent_of apart b room = elim (is_replaced_at tree b) [
+    | true ↦ replaced_independent b room (corner_of tree w b room)
+    | false ↦ context_independent apart b (corner_of tree w b room)
   ]
 
   -- ---- the table of what stands outside the flow
 
-  unfoldable pub with_box : List (Option Alone) → ℕ → List (Option Alone)
-  with_box table k = set table k (Some (alone_of (laid_at table) k (room tree w k)))
+  unfoldable pub with_box : List (Option Independent) → ℕ → List (Option Independent)
+  with_box table k = set table k (Some (independent_of (laid_at table) k (room tree w k)))
 
-  abbrev pub with_boxes : List (Option Alone) → List ℕ → List (Option Alone)
+  abbrev pub with_boxes : List (Option Independent) → List ℕ → List (Option Independent)
   with_boxes table ks = fold with_box table ks
 
-  unfoldable pub with_container : List (Option Alone) → ℕ → List (Option Alone)
+  unfoldable pub with_container : List (Option Independent) → ℕ → List (Option Independent)
   with_container table b =
       elim (is_inline (kind_of tree b)) [ true ↦ table | false ↦ with_boxes table (outside_of tree b) ]
 
   -- of the last so many boxes
-  unfoldable pub table_to : ℕ → List (Option Alone)
+  unfoldable pub table_to : ℕ → List (Option Independent)
   table_to zero = replicate (length tree.boxes) None
   table_to (suc count) = with_container (table_to count) (length tree.boxes - suc count)

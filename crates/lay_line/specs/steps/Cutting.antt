@@ -3,7 +3,7 @@
 use Rattle.std.specs.Prelude.{ℕ, zero, suc, ◌==◌, Bool, true, false, not, cond, if◌then◌else◌, List, [], ◌∷◌, ◌++◌, filter, Option, Some, None, find}
 use Rattle.std.specs.List.{onto_first}
 use Rattle.layout_semantics.specs.InlineContent.{Item, start, finish, forced}
-use Rattle.layout_semantics.specs.Stretches.{is_thing, is_end, until_thing, Parting}
+use Rattle.layout_semantics.specs.Segments.{is_thing, is_end, until_thing, Parting}
 
 -- ---- where the break stands
 

@@ -1,10 +1,10 @@
--- How much a line holds, in one pass over the stretches.
+-- How much a line holds, in one pass over the segments.
 use Rattle.std.specs.Prelude.{ℕ, suc, Bool, true, false, not, ◌&&◌, ◌||◌, List, [], ◌∷◌, fold}
 use Rattle.std.specs.Int.{int_max}
 use Rattle.std.specs.List.{list_any}
 use Rattle.layout_semantics.specs.Floats.{band_at}
 use Rattle.layout_semantics.specs.InlineContent.{Item, start, atomic, float_boxes, makes_line}
-use Rattle.layout_semantics.specs.Stretches.{is_forced}
+use Rattle.layout_semantics.specs.Segments.{is_forced}
 use Rattle.layout_semantics.specs.LineHeights.{InlineContext, LineExtent, extent_in_line, strut}
 use Rattle.layout_semantics.specs.LineFilling.{Line, Met, fits, meet, item_width, from_line_on}
 use Rattle.layout_semantics.specs.Lines.{opened_after}
@@ -28,7 +28,7 @@ with_item_box c e _ = e
 abbrev pub extent_at_start : InlineContext → List ℕ → LineExtent
 extent_at_start c opened = fold (with_box c) (strut c) opened
 
--- a line with some of its stretches: how many, and of how many items; their width, whether
+-- a line with some of its segments: how many, and of how many items; their width, whether
 -- a forced break is among them and whether something makes the line exist, the floats met,
 -- how far it reaches, and the inline boxes that are open behind them
 pub record Filled : Type 0 where
@@ -41,9 +41,9 @@ pub record Filled : Type 0 where
   pub extent : LineExtent
   pub opened : List ℕ
 
--- with one stretch more, which has come to this width, and at whose end these floats are met
-abbrev pub with_stretch : InlineContext → Line → Filled → List Item → List ℕ → Held → Filled
-with_stretch c line f part floats held = record {
+-- with one segment more, which has come to this width, and at whose end these floats are met
+abbrev pub with_segment : InlineContext → Line → Filled → List Item → List ℕ → Held → Filled
+with_segment c line f part floats held = record {
   count = suc f.count;
   span = spanned f.span part;
   held = held;
@@ -54,10 +54,10 @@ with_stretch c line f part floats held = record {
   opened = fold opened_after f.opened part;
 }
 
--- the first stretch stands on the line in any case
+-- the first segment stands on the line in any case
 abbrev pub first_filled : InlineContext → Line → List ℕ → List Item → Held → Filled
 first_filled c line opened part held =
-    with_stretch c line (record {
+    with_segment c line (record {
       count = 0;
       span = no_items;
       held = nothing_held;
@@ -73,15 +73,15 @@ first_filled c line opened part held =
 abbrev pub takes : InlineContext → Line → Filled → Held → Bool
 takes c line f held = fits held.width (band_at f.met.floats c.cb line.top line.tall) && not f.is_ended
 
--- it goes on behind a stretch that it takes, and is full before the first that it doesn't
+-- it goes on behind a segment that it takes, and is full before the first that it doesn't
 abbrev pub past : Bool → Filled → (Filled → Filled) → Filled → Filled
 past true f rest next = rest next
 past false f rest next = f
 
--- the stretches one by one
+-- the segments one by one
 abbrev pub filled : InlineContext → Line → Filled → List (List Item) → Filled
 filled c line f [] = f
 filled c line f (part ∷ parts) = to_held (with_items (item_width c) f.held part) (λ next. filled c line next parts)
   where
     to_held : Held → (Filled → Filled) → Filled
-    to_held held rest = past (takes c line f held) f rest (with_stretch c line f part (float_boxes part) held)
+    to_held held rest = past (takes c line f held) f rest (with_segment c line f part (float_boxes part) held)

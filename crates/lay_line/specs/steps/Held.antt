@@ -28,6 +28,6 @@ with_item width h (atomic at) = with_solid (width (atomic at)) h
 with_item width h (space at) = with_space (width (space at)) h
 with_item width h other = with_other (width other) h
 
--- with those of a stretch
+-- with those of a segment
 abbrev pub with_items : (Item → ℤ) → Held → List Item → Held
 with_items width h items = fold (with_item width) h items

@@ -4,7 +4,7 @@ use Rattle.std.specs.Int.{int_max}
 use Rattle.viz_base.specs.declared.layouts.Entry.{Entry}
 use Rattle.layout_semantics.specs.Floats.{FloatBox, band_at}
 use Rattle.layout_semantics.specs.InlineContent.{Item, content, float_boxes}
-use Rattle.layout_semantics.specs.Stretches.{may_part}
+use Rattle.layout_semantics.specs.Segments.{may_part}
 use Rattle.layout_semantics.specs.LineHeights.{InlineContext, height_of_extent, strut}
 use Rattle.layout_semantics.specs.LineFilling.{Met, Line, place_each, before_line, first_items, item_width}
 use Rattle.layout_semantics.specs.Fragments.{ItemPlace, line_entries, float_entries}
@@ -20,7 +20,7 @@ use Rattle.lay_line.specs.steps.Cutting.{cut}
 abbrev pub tallest_of : InlineContext → List Item → ℤ
 tallest_of c items = int_max (pos 1) (height_of_extent (fold (with_item_box c) (strut c) items))
 
--- the next line, its first stretch taking so much
+-- the next line, its first segment taking so much
 abbrev pub line_from : InlineContext → ℤ → SoFar → List Item → List (List Item) → ℤ → Line
 line_from c tall now first parts width =
     at_top (place_each c now.least now.y (no_floats now.floats) (float_boxes (before_line c.tree first)))
@@ -53,7 +53,7 @@ line_added c now line f places late = with_left (left_of c line f.met f.held.wid
           spots = late.spots;
         }) now.opened
 
--- a line that exists, from what the pass over its stretches carried
+-- a line that exists, from what the pass over its segments carried
 abbrev pub laid : InlineContext → SoFar → Line → Filled → List ItemPlace → LaidLines
 laid c now line f places =
     finished (place_each c (int_max now.least line.top) (line.top +ℤ height_of_extent f.extent)

@@ -1,4 +1,4 @@
--- Stretches that a line may take at once.
+-- Segments that a line may take at once.
 use Rattle.std.specs.Prelude.{◌≡◌, ◌<◌, ◌≤◌, ◌⊎◌, ℕ, pos, ◌≤ℤ◌, Bool, true, false, ◌&&◌, List, [], ◌∷◌, ◌++◌, length, IsTrue}
 use Rattle.std.specs.List.{list_all, flat_map, AllByRecursion}
 use Rattle.layout_semantics.specs.InlineContent.{Item, word, space}

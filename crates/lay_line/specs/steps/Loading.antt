@@ -1,9 +1,9 @@
--- How much a line holds of measured items, stretch by stretch.
+-- How much a line holds of measured items, segment by segment.
 use Rattle.std.specs.Prelude.{◌≡◌, ◌<◌, ℕ, suc, ℤ, pos, Bool, false, cond, not, ◌&&◌, ◌||◌, List, [], ◌∷◌, ◌++◌, length, map, Option, Some, None}
 use Rattle.std.specs.Int.{int_max}
 use Rattle.std.specs.List.{list_any, onto_first}
 use Rattle.layout_semantics.specs.InlineContent.{Item, start, atomic, float_boxes}
-use Rattle.layout_semantics.specs.Stretches.{is_forced}
+use Rattle.layout_semantics.specs.Segments.{is_forced}
 use Rattle.layout_semantics.specs.LineHeights.{InlineContext, LineExtent, height_of_extent}
 use Rattle.layout_semantics.specs.LineFilling.{Met, fits}
 use Rattle.layout_semantics.specs.Lines.{opened_after}
@@ -89,7 +89,7 @@ pub record Load : Type 0 where
   pub extent : LineExtent
   pub opened : List ℕ
 
--- with one stretch more, which has come to this width, and at whose end these floats are met
+-- with one segment more, which has come to this width, and at whose end these floats are met
 unfoldable pub loaded : InlineContext → Slot → Load → List Item → List ℕ → Held → Load
 loaded c slot f part floats held = record {
   held = held;
@@ -100,11 +100,11 @@ loaded c slot f part floats held = record {
   opened = opened_by f.opened part;
 }
 
--- a later stretch stands on the line where no forced break stands before it, and it fits beside the floats met so far
+-- a later segment stands on the line where no forced break stands before it, and it fits beside the floats met so far
 unfoldable pub takes_more : InlineContext → Slot → Load → Held → Bool
 takes_more c slot f held = not f.is_ended && fits held.width (room_in c f.met.floats slot.top slot.tall)
 
--- stretches one by one, and those that are left
+-- segments one by one, and those that are left
 abbrev pub loading : InlineContext → Slot → Load → List (List Measured) → Load × List (List Measured)
 loading c slot f [] = (f, [])
 loading c slot f (part ∷ parts) = cond (takes_more c slot f (held_with f.held part))

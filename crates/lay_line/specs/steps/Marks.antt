@@ -1,7 +1,7 @@
 -- Where content is parted, as a mark at each item: whether a part ends behind it.
 use Rattle.std.specs.Prelude.{ℕ, suc, Bool, false, cond, List, [], ◌∷◌, ◌++◌, Option, Some, None, find}
 use Rattle.layout_semantics.specs.InlineContent.{Item, start, finish, forced}
-use Rattle.layout_semantics.specs.Stretches.{is_thing, Parting}
+use Rattle.layout_semantics.specs.Segments.{is_thing, Parting}
 use Rattle.lay_line.specs.steps.Cutting.{Starts, first_or, without, leading_ends, one_less, is_here, last_after, parted}
 
 -- what is known of the items of a run that are behind: the starts that have

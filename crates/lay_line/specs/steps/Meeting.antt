@@ -53,7 +53,7 @@ met_all c slot held met (at ∷ boxes) = met_all c slot held (met_next c slot he
 
 -- ---- the top
 
--- whether a stretch of this width may stand there: beside no float, or where it fits
+-- whether a segment of this width may stand there: beside no float, or where it fits
 unfoldable pub stands_at : InlineContext → List FloatBox → ℤ → ℤ → ℤ → Bool
 stands_at c floats tall width top = not (list_any (meets top tall) floats) || fits width (room_in c floats top tall)
 

@@ -10,7 +10,7 @@ use Rattle.viz_base.specs.declared.worlds.World.{World}
 use Rattle.layout_semantics.specs.Blocks.{kind_of}
 use Rattle.layout_semantics.specs.InlineContent.{start_edges, end_edges}
 use Rattle.layout_semantics.specs.Lengths.{total}
-use Rattle.layout_semantics.specs.Preferred.{absolute_part, outer_edges, held_absolute, outer_preferred, preferred}
+use Rattle.layout_semantics.specs.Preferred.{absolute_part, outer_edges, clamped_absolute, outer_preferred, preferred}
 use Rattle.layout_semantics.specs.Replaced.{preferred_replaced}
 use Rattle.lay_width.specs.Fitting.{own_width_of}
 
@@ -30,12 +30,12 @@ end_of tree w at = total (map (absolute_part tree w) (end_edges tree at))
 unfoldable pub edges_of : BoxTree → World → ℕ → ℤ
 edges_of tree w at = outer_edges tree w at
 
-unfoldable pub held_of : BoxTree → World → ℕ → ℤ → ℤ
-held_of tree w at x = held_absolute tree w at x
+unfoldable pub clamped_of : BoxTree → World → ℕ → ℤ → ℤ
+clamped_of tree w at x = clamped_absolute tree w at x
 
--- held and with its edges
+-- clamped and with its edges
 unfoldable pub with_edges : BoxTree → World → ℕ → ℤ → ℤ
-with_edges tree w at x = held_of tree w at x +ℤ edges_of tree w at
+with_edges tree w at x = clamped_of tree w at x +ℤ edges_of tree w at
 
 -- the width of a box is what its `width` says: the box isn't replaced, and that is neither a percentage nor `auto`
 abbrev pub has_own : Kind → Bool

@@ -7,7 +7,7 @@ use Rattle.layout_semantics.specs.Blocks.{node_of}
 use Rattle.layout_semantics.specs.Fonts.{text_width}
 use Rattle.layout_semantics.specs.InlineContent.{Item, start, finish, word, space, atomic, float, box_of, content, is_floated_at}
 use Rattle.layout_semantics.specs.Order.{kids_of}
-use Rattle.layout_semantics.specs.Stretches.{may_part, never}
+use Rattle.layout_semantics.specs.Segments.{may_part, never}
 use Rattle.lay_line.specs.steps.Held.{Held, nothing_held, with_item}
 use Rattle.lay_line.specs.steps.Loading.{parts_of}
 use Rattle.lay_line.specs.steps.Marks.{marks}

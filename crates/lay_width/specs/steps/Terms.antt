@@ -44,13 +44,13 @@ below least width (Some m) = cond (int_le least m) (Some m) (Some least)
 abbrev pub again : Option ℤ → ℤ → ℤ → Option ℤ
 again most least width = below least width (above most width)
 
--- the width of a replaced box before it is held
+-- the width of a replaced box before it is clamped
 abbrev pub tentative : ℕ × ℕ → Option ℤ → Option ℤ → ℤ
 tentative size width height = unwrap_or width (option_map_or (λ h. by_ratio h size.1 size.0) height (pos (64 * size.0)))
 
 -- a width after the maximum and the minimum of a box
-abbrev pub held_again : BoxTree → World → ℕ → ℤ → ℤ → ℤ
-held_again tree w at cb width = unwrap_or (again (own_maximum tree w at cb) (own_minimum tree w at cb) width) width
+abbrev pub clamped_again : BoxTree → World → ℕ → ℤ → ℤ → ℤ
+clamped_again tree w at cb width = unwrap_or (again (own_maximum tree w at cb) (own_minimum tree w at cb) width) width
 
 -- the terms of a block of width `auto` with these edges
 abbrev pub filled_block : BoxTree → World → ℕ → ℤ → Widths ℤ → Widths ℤ
@@ -66,9 +66,9 @@ filled_block tree w at cb edges =
 abbrev pub given_block : BoxTree → World → ℕ → ℤ → Length → Widths ℤ → Widths ℤ
 given_block tree w at cb length edges =
     fixed_around (is_auto (margins tree at).left) (is_auto (margins tree at).right)
-    (around edges (held_again tree w at cb (used tree w length cb))) cb
+    (around edges (clamped_again tree w at cb (used tree w length cb))) cb
 
--- the width of a float or of an inline-block before it is held, by its own `width`
+-- the width of a float or of an inline-block before it is clamped, by its own `width`
 abbrev pub fitted_by : BoxTree → World → Length → ℤ → Preferred ℤ → Widths ℤ → ℤ
 fitted_by tree w of_length.Auto cb p edges = shrink_to_fit p (room_between edges cb)
 fitted_by tree w length cb p edges = used tree w length cb

@@ -7,7 +7,7 @@ use Rattle.layout_semantics.specs.Rectangles.{shifted}
 use Rattle.lay_frame.specs.Readings.{boxes_at}
 use Rattle.lay_line.proofs.Chains.{start_but_mem}
 use Rattle.page_limits.specs.Bounds.{IsPlacedIn}
-use Rattle.lay_flow.specs.Low.{reach, IsAloneLow}
+use Rattle.lay_flow.specs.Low.{reach, IsIndependentLow}
 use Rattle.lay_flow.specs.Fits.{IsSpotNear}
 use Rattle.lay_flow.specs.Readings.{apart_at}
 use Rattle.lay_flow.proofs.floating.add_apart.Goals as goal
@@ -16,11 +16,11 @@ pub returns-in-Some-Some : goal.returns-in-Some-Some
 unfolding apart_at
 returns-in-Some-Some g c =
     let at = g.S.Steady.at in
-    let alone = c.in-Some-Some.alone in
+    let independent = c.in-Some-Some.independent in
     let apart = (λ (e : Reading). apart_at at c.args.apart.now e c.args.at) in
-    let same : (e : Reading) → (apart_at at c.args.apart.now e c.args.at).boxes ≡ boxes_at at alone.boxes.items e = λ e. grind (arith, common_steps) in
+    let same : (e : Reading) → (apart_at at c.args.apart.now e c.args.at).boxes ≡ boxes_at at independent.boxes.items e = λ e. grind (arith, common_steps) in
     let added = c.add_each.ensures in
-    let chain = start_but_mem {asks = λ (e : Reading). IsSpotNear (spot_at at c.args.by.now e) × IsAloneLow (apart e)} added.goes added.cause (λ f e o.
+    let chain = start_but_mem {asks = λ (e : Reading). IsSpotNear (spot_at at c.args.by.now e) × IsIndependentLow (apart e)} added.goes added.cause (λ f e o.
     let boxes = subst (AllByRecursion (IsPlacedIn reach)) (same e) (f e o).1.boxes in
     ((f e o).0, subst (λ xs. AllByRecursion (IsPlacedIn reach) (boxes_at at xs e)) (sym c.as_slice.ensures.value) boxes)) in
     record {

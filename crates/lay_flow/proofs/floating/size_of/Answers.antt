@@ -14,8 +14,8 @@ pub returns-in-Some-Some : goal.returns-in-Some-Some
 unfolding apart_at
 returns-in-Some-Some g c =
     let at = g.S.Steady.at in
-    let alone = c.in-Some-Some.alone in
-    let same : (e : Reading) → (apart_at at c.args.apart.now e c.args.at).size ≡ extent_at at alone.size e = λ e. grind (arith, common_steps) in
+    let independent = c.in-Some-Some.independent in
+    let same : (e : Reading) → (apart_at at c.args.apart.now e c.args.at).size ≡ extent_at at independent.size e = λ e. grind (arith, common_steps) in
     let copied = c.copy_extent.ensures in
     let chain = start {asks = λ (e : Reading). IsExtentIn reach (apart_at at c.args.apart.now e c.args.at).size} copied.goes copied.cause (λ f e o. subst (IsExtentIn reach) (same e) (f e o)) in
     record {

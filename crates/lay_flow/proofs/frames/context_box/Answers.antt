@@ -1,7 +1,7 @@
 use Rattle.std.proofs.Common.{◌^◌, IsTrue, ap, sym, subst, ◌∙◌, arith}
 use Rattle.std.proofs.lemmas.Grind.{common_steps}
 use Rattle.viz_calc.specs.World.{Reading}
-use Rattle.layout_semantics.specs.DefiniteHeights.{held_height}
+use Rattle.layout_semantics.specs.DefiniteHeights.{clamped_height}
 use Rattle.lay_frame.specs.Readings.{frame_at}
 use Rattle.lay_width.specs.Readings.{option_at}
 use Rattle.lay_line.proofs.Chains.{Chain, start, next}
@@ -32,7 +32,7 @@ returns g c =
           rw w.calc-is (next (next one w.content_top-top.ensures.goes w.content_top-top.ensures.cause (λ f e o. top-fits (frame e) (f e o).1.0)) w.context_height-height.ensures.goes w.context_height-height.ensures.cause (λ f e o.
           (subst IsNear (sym (w.content_top-top.ensures.value e o)) (top-near (frame e) (f e o).1.0), (f e o).1.1)))
     ] in
-    let tall : (e : Reading) → IsTrue ((run c.match-known_height.calc).is_open e) → asks e → IsSmall (2 ^ 94) (held_height tree e.world b (at c.match-known_height.height e)) = λ e o a. elim c.match-known_height.branch [
+    let tall : (e : Reading) → IsTrue ((run c.match-known_height.calc).is_open e) → asks e → IsSmall (2 ^ 94) (clamped_height tree e.world b (at c.match-known_height.height e)) = λ e o a. elim c.match-known_height.branch [
       | in-Some w ↦
           let o1 = rw w.calc-is at o in
           rw w.height-is (known-tall tree e.world b (at w.in-Some.height e) a.0 (sym (known.value e o1) ∙ ap (λ r. option_at at r e) w.in-Some.is))
@@ -44,11 +44,11 @@ returns g c =
           rw w.height-is (content-tall tree e.world b (at w.context_height-height.result e) a.0 (sym (known.value e o1) ∙ ap (λ r. option_at at r e) w.in-None.is)
           (subst (IsSmall (2 ^ 94)) (sym (w.context_height-height.ensures.value e o3)) (tall-small (2 ^ 92) (2 ^ 94) (at w.content_top-top.result e) (end e) top a.1.1 (omega arith))))
     ] in
-    let three = next two c.held-height.ensures.goes c.held-height.ensures.cause (λ f e o. (f e o).0) in
+    let three = next two c.clamped-height.ensures.goes c.clamped-height.ensures.cause (λ f e o. (f e o).0) in
     let chain = next three c.place.ensures.goes c.place.ensures.cause (λ f e o.
     let a = f e o in
-    let h = subst (IsSmall (2 ^ 94)) (sym (c.held-height.ensures.value e o)) (tall e (c.held-height.ensures.goes.closes e o) a) in
-    place-fits (frame e) (at c.held-height.result e) a.1.0 h) in
+    let h = subst (IsSmall (2 ^ 94)) (sym (c.clamped-height.ensures.value e o)) (tall e (c.clamped-height.ensures.goes.closes e o) a) in
+    place-fits (frame e) (at c.clamped-height.result e) a.1.0 h) in
     record {
       goes = chain.goes;
       value = grind (arith, common_steps);

@@ -1,7 +1,7 @@
 use Rattle.std.proofs.Common.{◌^◌, ℤ, IsTrue, sym, subst}
 use Rattle.viz_calc.specs.World.{Reading}
 use Rattle.viz_calc.specs.Renderings.{band_at}
-use Rattle.layout_semantics.specs.FlowBoxes.{across}
+use Rattle.layout_semantics.specs.FlowBoxes.{inline_size}
 use Rattle.lay_line.proofs.Chains.{but_mem}
 use Rattle.lay_preferred.specs.Fitting.{BoxesFit}
 use Rattle.lay_preferred.proofs.Causes.{fits-later}
@@ -19,18 +19,18 @@ returns-clause-cause g c =
     let tree = c.args.page.now.tree.now in
     let cb = c.args.cb.now in
     let fits = (λ (e : Reading) (z : ℤ). IsShapeFit tree e.world c.args.b z) in
-    let asks = (λ (e : Reading). IsBandLow (band_at at cb e) × (IsLevelLow (at c.args.top.now e) × fits e (across (band_at at cb e)))) in
+    let asks = (λ (e : Reading). IsBandLow (band_at at cb e) × (IsLevelLow (at c.args.top.now e) × fits e (inline_size (band_at at cb e)))) in
     let All = BoxesFit tree (run c.args.calc.now).is_open × ((e : Reading) → IsTrue ((run c.args.calc.now).is_open e) → asks e) in
-    let room = c.across-room.ensures in
+    let room = c.inline_size-room.ensures in
     let x = c.widths-x.ensures in
     let v = c.verticals-v.ensures in
     let left = c.add-left.ensures in
     let top = c.copy-top.ensures in
-    let shaped = (λ (e : Reading) (o : IsTrue ((run c.across-room.new.calc).is_open e)) (a : asks e). subst (fits e) (sym (room.value e o)) a.1.1) in
+    let shaped = (λ (e : Reading) (o : IsTrue ((run c.inline_size-room.new.calc).is_open e)) (a : asks e). subst (fits e) (sym (room.value e o)) a.1.1) in
     let one = first {more = All} room.goes (but_mem room.cause) (λ f e o.
     let band = (f.1 e o).0 in
     near-difference (at cb.right e) (at cb.left e) (aside-near (at cb.right e) band.right) (aside-near (at cb.left e) band.left)) in
-    let two = then one x.goes x.cause (λ so_far f. (fits-later tree (run c.args.calc.now) (run c.across-room.new.calc) so_far f.0, λ e o. shaped e o (f.1 e (so_far.closes e o)))) in
+    let two = then one x.goes x.cause (λ so_far f. (fits-later tree (run c.args.calc.now) (run c.inline_size-room.new.calc) so_far f.0, λ e o. shaped e o (f.1 e (so_far.closes e o)))) in
     let three = then two v.goes (but_mem v.cause) (λ so_far f e o. (shaped e (x.goes.closes e o) (f.1 e (so_far.closes e o))).down) in
     let four = then three left.goes (but_mem left.cause) (λ so_far f e o.
     let a = f.1 e (so_far.closes e o) in

@@ -18,7 +18,7 @@ returns-in-Block-clause-cause g c =
     let placed : placing_of tree b ≡ block_flow = grind arith in
     let cause = c.block.ensures.cause in
     record {
-      coeff = λ f. cause.coeff (λ e o. subst (λ p. WidthsFit (in_block tree e.world b (at c.args.room.now e)) p (preferred tree e.world b)) placed (f.1 e o).across);
+      coeff = λ f. cause.coeff (λ e o. subst (λ p. WidthsFit (in_block tree e.world b (at c.args.room.now e)) p (preferred tree e.world b)) placed (f.1 e o).inline_size);
       opens = cause.opens;
     }
 
@@ -30,7 +30,7 @@ returns-in-ReplacedBlock-clause-cause g c =
     let placed : placing_of tree b ≡ replaced_block = grind arith in
     let cause = c.replaced_block.ensures.cause in
     record {
-      coeff = λ f. cause.coeff (λ e o. subst (λ p. WidthsFit (in_block tree e.world b (at c.args.room.now e)) p (preferred tree e.world b)) placed (f.1 e o).across);
+      coeff = λ f. cause.coeff (λ e o. subst (λ p. WidthsFit (in_block tree e.world b (at c.args.room.now e)) p (preferred tree e.world b)) placed (f.1 e o).inline_size);
       opens = cause.opens;
     }
 
@@ -42,7 +42,7 @@ returns-in-ReplacedShrunk-clause-cause g c =
     let placed : placing_of tree b ≡ replaced_shrunk = grind arith in
     let cause = c.replaced_shrunk.ensures.cause in
     record {
-      coeff = λ f. cause.coeff (λ e o. subst (λ p. WidthsFit (in_block tree e.world b (at c.args.room.now e)) p (preferred tree e.world b)) placed (f.1 e o).across);
+      coeff = λ f. cause.coeff (λ e o. subst (λ p. WidthsFit (in_block tree e.world b (at c.args.room.now e)) p (preferred tree e.world b)) placed (f.1 e o).inline_size);
       opens = cause.opens;
     }
 
@@ -60,4 +60,4 @@ returns-in-Shrunk-clause-cause g c =
     let two = then one both.goes both.cause (λ so_far f. fits-later tree (run c.args.calc.now) (run c.nothing_found-found.new.calc) so_far f.0) in
     (then two c.shrunk.ensures.goes (but_mem c.shrunk.ensures.cause) (λ so_far f e o.
     subst (λ p. ShrunkFits tree e.world b (at c.args.room.now e) p) (sym (both.value e o))
-    (subst (λ p. WidthsFit (in_block tree e.world b (at c.args.room.now e)) p (preferred tree e.world b)) placed (f.1 e (so_far.closes e o)).across))).cause
+    (subst (λ p. WidthsFit (in_block tree e.world b (at c.args.room.now e)) p (preferred tree e.world b)) placed (f.1 e (so_far.closes e o)).inline_size))).cause

@@ -24,7 +24,7 @@ returns g c =
           subst (λ z. AllSmall (by_ratio z w.intrinsic-size.result.0 w.intrinsic-size.result.1 ∷ [])) (sym (w.width-width.ensures.value e o))
           (subst (λ (s : ℕ × ℕ). AllSmall (by_ratio (replaced_size tree e.world b (room e)).width s.0 s.1 ∷ [])) (sym w.intrinsic-size.ensures) (f e o).ratio)))
     ] in
-    let chain = next two c.held.ensures.goes c.held.ensures.cause (λ f e o. (f e o).own) in
+    let chain = next two c.clamped.ensures.goes c.clamped.ensures.cause (λ f e o. (f e o).own) in
     record {
       goes = chain.goes;
       value = grind (arith, common_steps);

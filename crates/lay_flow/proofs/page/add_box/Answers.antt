@@ -2,7 +2,7 @@ use Rattle.std.proofs.Common.{◌≡◌, ℕ, ℤ, suc, ◌+◌, ap, sym, subst,
 use Rattle.viz_calc.specs.World.{Reading}
 use Rattle.layout_semantics.specs.FlowBoxes.{room_to}
 use Rattle.flow_steps.specs.Tables.{laid_at}
-use Rattle.lay_flow.specs.AloneFits.{AloneFits, BoxAddedFits, RoomFits}
+use Rattle.lay_flow.specs.IndependentFits.{IndependentFits, BoxAddedFits, RoomFits}
 use Rattle.lay_flow.specs.Readings.{apart_at, table_at}
 use Rattle.lay_flow.proofs.Givens.{first, more}
 use Rattle.viz_calc.proofs.Runs.{Goes-then}
@@ -10,7 +10,7 @@ use Rattle.lay_flow.proofs.TableFacts.{box-added}
 use Rattle.lay_flow.proofs.page.add_box.Goals as goal
 
 pub returns-clause-goes : goal.returns-clause-goes
-returns-clause-goes g c = Goes-then _ _ _ c.room-room.ensures.goes c.alone-laid.ensures.goes
+returns-clause-goes g c = Goes-then _ _ _ c.room-room.ensures.goes c.independent-laid.ensures.goes
 
 pub returns-clause-value : goal.returns-clause-value
 returns-clause-value g c = λ e o.
@@ -18,8 +18,8 @@ returns-clause-value g c = λ e o.
     let tree = c.args.tree.now in
     let levels : c.from.result + 1 ≡ suc c.args.k = grind arith in
     let same : c.as_slice.result.now ≡ c.args.table.now.places.items = grind arith in
-    box-added at e tree e.world c.args.table.now.places.items c.keep.new.table.places.items c.as_slice.result.now c.args.k (c.from.result + 1) c.alone-laid.result (at c.room-room.result e)
-    c.keep.ensures same (c.alone-laid.ensures.value e o) levels (c.room-room.ensures.value e (c.alone-laid.ensures.goes.closes e o))
+    box-added at e tree e.world c.args.table.now.places.items c.keep.new.table.places.items c.as_slice.result.now c.args.k (c.from.result + 1) c.independent-laid.result (at c.room-room.result e)
+    c.keep.ensures same (c.independent-laid.ensures.value e o) levels (c.room-room.ensures.value e (c.independent-laid.ensures.goes.closes e o))
 
 pub returns-clause-cause : goal.returns-clause-cause
 unfolding apart_at
@@ -32,7 +32,7 @@ returns-clause-cause g c =
     let levels : c.from.result + 1 ≡ suc k = grind arith in
     let same : c.as_slice.result.now ≡ c.args.table.now.places.items = grind arith in
     let wide = c.room-room.ensures in
-    let laid = c.alone-laid.ensures in
+    let laid = c.independent-laid.ensures in
     let one = first {tree = tree} {asks = asks} wide.goes wide.cause (λ a. (
       a.0,
       λ e o.
@@ -41,6 +41,6 @@ returns-clause-cause g c =
     (more one laid.goes laid.cause (λ a. (
       a.0,
       λ e o.
-          subst (λ (z : ℤ). AloneFits tree e.world (laid_at (table_at at c.as_slice.result.now e)) k z) (sym (wide.value e o ∙ ap (λ (n : ℕ). room_to n tree e.world k) levels))
-          (subst (λ t. AloneFits tree e.world (laid_at (table_at at t e)) k (room_to (suc k) tree e.world k)) (sym same) (a.1 e o).own),
+          subst (λ (z : ℤ). IndependentFits tree e.world (laid_at (table_at at c.as_slice.result.now e)) k z) (sym (wide.value e o ∙ ap (λ (n : ℕ). room_to n tree e.world k) levels))
+          (subst (λ t. IndependentFits tree e.world (laid_at (table_at at t e)) k (room_to (suc k) tree e.world k)) (sym same) (a.1 e o).own),
     ))).cause

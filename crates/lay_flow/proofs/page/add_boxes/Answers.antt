@@ -1,8 +1,8 @@
 use Rattle.std.proofs.Common.{◌<◌, ◌+◌, ℕ, List, drop, length, Option, ap, sym, subst, ◌∙◌, arith}
 use Rattle.viz_calc.specs.World.{Reading}
 use Rattle.viz_calc.proofs.Runs.{Goes-then, BlamesButMem-then}
-use Rattle.layout_semantics.specs.Flow.{Alone}
-use Rattle.lay_flow.specs.AloneFits.{BoxesAddedFit}
+use Rattle.layout_semantics.specs.Flow.{Independent}
+use Rattle.lay_flow.specs.IndependentFits.{BoxesAddedFit}
 use Rattle.lay_flow.specs.Readings.{table_at}
 use Rattle.lay_flow.specs.steps.Flow.{with_boxes}
 use Rattle.lay_flow.proofs.Givens.{boxes-later}
@@ -25,10 +25,10 @@ loop-k-preserved g c =
       found = own.found;
       within = others-hold (λ (k : ℕ). k < length tree.boxes) boxes i within inv.within;
       value = λ e o.
-          ap (λ (x : List (Option Alone)). with_boxes tree e.world x (drop (i + 1) boxes)) (own.value e o)
+          ap (λ (x : List (Option Independent)). with_boxes tree e.world x (drop (i + 1) boxes)) (own.value e o)
           ∙ sym (boxes-next tree e.world (table e) boxes i within)
           ∙ inv.value e (own.goes.closes e o);
       left = λ a e o.
-          subst (λ (x : List (Option Alone)). BoxesAddedFit tree e.world x (drop (i + 1) boxes)) (sym (own.value e o)) (next e (inv.left a e (own.goes.closes e o))).1;
+          subst (λ (x : List (Option Independent)). BoxesAddedFit tree e.world x (drop (i + 1) boxes)) (sym (own.value e o)) (next e (inv.left a e (own.goes.closes e o))).1;
       cause = BlamesButMem-then _ _ _ _ _ inv.goes own.goes inv.cause (λ a. (boxes-later tree _ _ inv.goes a.0, λ e o. (next e (inv.left a.1 e o)).0)) own.cause;
     }

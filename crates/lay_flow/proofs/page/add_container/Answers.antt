@@ -5,7 +5,7 @@ use Rattle.lay_preferred.proofs.Founds.{found-closed}
 use Rattle.viz_base.specs.Trees.{is_inline}
 use Rattle.viz_calc.specs.World.{Reading}
 use Rattle.layout_semantics.specs.Blocks.{kind_of}
-use Rattle.lay_flow.specs.AloneFits.{BoxesAddedFit, ContainerFits}
+use Rattle.lay_flow.specs.IndependentFits.{BoxesAddedFit, ContainerFits}
 use Rattle.lay_flow.specs.Readings.{table_at}
 use Rattle.lay_flow.proofs.Givens.{first}
 use Rattle.lay_flow.proofs.TableFacts.{outside-within}

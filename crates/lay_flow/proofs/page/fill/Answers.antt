@@ -1,6 +1,6 @@
 use Rattle.std.proofs.Common.{◌≡◌, ℕ, suc, ◌-◌, ◌<◌, length, refl, sym, subst, inl, arith, ◌∙◌}
 use Rattle.viz_calc.proofs.Runs.{Goes-then, BlamesButMem-then}
-use Rattle.lay_flow.specs.AloneFits.{ContainerFits}
+use Rattle.lay_flow.specs.IndependentFits.{ContainerFits}
 use Rattle.lay_flow.specs.Readings.{table_at}
 use Rattle.lay_flow.proofs.Givens.{boxes-later}
 use Rattle.lay_flow.proofs.TableFacts.{next-table, first-table, table-none}

@@ -4,7 +4,7 @@ use Rattle.viz_calc.specs.Run.{Goes, BlamesButMem}
 use Rattle.lay_preferred.specs.Readings.{AreFound}
 use Rattle.lay_flow.specs.Readings.{table_at}
 use Rattle.lay_flow.specs.steps.Flow.{table_to}
-use Rattle.lay_flow.specs.AloneFits.{TableFits}
+use Rattle.lay_flow.specs.IndependentFits.{TableFits}
 use Rattle.lay_flow.specs.WalkFits.{AllFit}
 use Rattle.lay_flow.proofs.page.fill.Given as goal
 

@@ -2,7 +2,7 @@ use Rattle.std.proofs.Common.{sym, subst, arith}
 use Rattle.std.proofs.lemmas.Grind.{common_steps}
 use Rattle.viz_calc.specs.World.{Reading}
 use Rattle.viz_calc.specs.Renderings.{band_at}
-use Rattle.layout_semantics.specs.FlowBoxes.{across}
+use Rattle.layout_semantics.specs.FlowBoxes.{inline_size}
 use Rattle.lay_width.specs.Fitting.{VerticalsFit}
 use Rattle.lay_line.proofs.Chains.{start, next}
 use Rattle.lay_margin.specs.Runs.{run_at}
@@ -20,7 +20,7 @@ returns-then-reached g c =
     let cb = c.args.cb.now in
     let met = c.args.met in
     let own = (λ (e : Reading). run_at at met.own e) in
-    let asks = (λ (e : Reading). IsBandLow (band_at at cb e) × (VerticalsFit tree e.world c.args.b (across (band_at at cb e)) × (IsLevelLow (at met.reached.top e) × IsRunLow (own e)))) in
+    let asks = (λ (e : Reading). IsBandLow (band_at at cb e) × (VerticalsFit tree e.world c.args.b (inline_size (band_at at cb e)) × (IsLevelLow (at met.reached.top e) × IsRunLow (own e)))) in
     let ended = c.copy_run-ended.ensures in
     let joined = c.join_bottom.ensures in
     let margin = c.value-margin.ensures in

@@ -17,7 +17,7 @@ use Rattle.lay_flow.specs.Low.{IsContextLow, IsFrameLow, IsLevelLow, IsRunLow}
 use Rattle.lay_flow.specs.WalkFits.{WalkFits, before_content, before_children, before_child, before_flow, when_reached, when_starting, when_going_on}
 use Rattle.lay_flow.specs.steps.Flow.{block_of, child_of, children_of, laid_of, opened, root_of, standing_after, standing_in}
 use Rattle.lay_flow.specs.Readings.{apart_at, context_at, ending_at, laid_with, met_at, standing_at, cleared_at, without_boxes}
-use Rattle.lay_flow.proofs.Around.{across-fits, band-fits, kept-fits}
+use Rattle.lay_flow.proofs.Around.{inline_size-fits, band-fits, kept-fits}
 use Rattle.lay_flow.proofs.ContentCases.{by-lines, by-children}
 use Rattle.lay_flow.proofs.Framed.{top-fits, top-near}
 use Rattle.lay_flow.proofs.Givens.{boxes-later, first, first_at, more, more_at}
@@ -217,10 +217,10 @@ lay-returns-then-is_replaced-clause-cause g t c =
     let at_start = (λ (e : Reading) (w : asks e). laid-walk tree e.world (apart e) (cb e) (s e) b (y e) (ahead e) w) in
     let is : is_replaced_at tree b ≡ true = grind arith in
     let shape = c.shape-shape.ensures in
-    let wide = c.across-room.ensures in
+    let wide = c.inline_size-room.ensures in
     let placed = c.lay_replaced.ensures in
     let one = first {tree = tree} {asks = asks} shape.goes shape.cause (λ a. (a.0, λ e o. let x = at_start e (a.1 e o) in (x.band, (x.top_low, x.shape)))) in
-    let two = more_at one wide.goes wide.cause (λ a e o. across-fits (cb e) (at_start e (a e o)).band) in
+    let two = more_at one wide.goes wide.cause (λ a e o. inline_size-fits (cb e) (at_start e (a e o)).band) in
     (more two placed.goes placed.cause (λ a e o.
     let x = at_start e (a.1 e o) in (
       subst (λ (z : ℤ). IsReplacedFit tree e.world b z) (sym (wide.value e o)) (x.replaced is),

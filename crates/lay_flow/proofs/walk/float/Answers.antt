@@ -8,7 +8,7 @@ use Rattle.lay_float.specs.Readings.{extent_at, floats_at, option_at}
 use Rattle.lay_line.proofs.Chains.{start_but_mem, next_but_mem, but_mem}
 use Rattle.page_limits.specs.Bounds.{IsExtentIn}
 use Rattle.flow_steps.specs.Flow.{next_edge}
-use Rattle.lay_flow.specs.Low.{reach, IsAloneLow, IsBandLow, IsContextLow}
+use Rattle.lay_flow.specs.Low.{reach, IsIndependentLow, IsBandLow, IsContextLow}
 use Rattle.lay_flow.specs.Fits.{IsNear, IsSpotNear}
 use Rattle.lay_flow.specs.Readings.{apart_at, context_at}
 use Rattle.lay_flow.proofs.Framed.{next-edge-small}
@@ -65,9 +65,9 @@ returns-clause-cause g c =
     let tree = c.args.page.now.tree.now in
     let context = c.args.context.now in
     let top = c.args.top.now in
-    let alone = (λ (e : Reading). apart_at at c.args.page.now.apart.now e c.args.k) in
+    let independent = (λ (e : Reading). apart_at at c.args.page.now.apart.now e c.args.k) in
     let band = (λ (e : Reading). band_at at c.args.cb.now e) in
-    let asks = (λ (e : Reading). IsContextLow (context_at at context e) × (IsBandLow (band e) × (IsNear (at top e) × IsAloneLow (alone e)))) in
+    let asks = (λ (e : Reading). IsContextLow (context_at at context e) × (IsBandLow (band e) × (IsNear (at top e) × IsIndependentLow (independent e)))) in
     let size = c.size_of-size.ensures in
     let edge = c.next_edge-edge.ensures in
     let from = c.copy-from.ensures in

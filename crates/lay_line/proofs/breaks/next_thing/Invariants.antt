@@ -1,5 +1,5 @@
 use Rattle.std.proofs.Common.{◌≡◌, drop, find}
-use Rattle.layout_semantics.specs.Stretches.{is_thing}
+use Rattle.layout_semantics.specs.Segments.{is_thing}
 use Rattle.lay_line.specs.Items.{items_of}
 use Rattle.lay_line.proofs.breaks.next_thing.Given as goal
 

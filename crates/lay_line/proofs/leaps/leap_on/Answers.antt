@@ -18,6 +18,6 @@ loop-next-preserved g c =
 pub returns : goal.returns
 returns g c =
     let one = c.in_ok-one.one in
-    let all = c.args.stretches.now in
+    let all = c.args.segments.now in
     leap-more (λ ps. is_plain (bare_of ps)) all.pieces.now all.marks.now one.first.now one.rest.pieces.now one.rest.marks.now c.args.most c.in_ok-one.ensures.0 c.loop-next.rest.pieces.now c.split_at.result.0.now c.loop-next.rest.marks.now
     c.loop-next.count c.saturating_sub-taken.result (sym c.if-not-is_plain.ensures) c.loop-next.invariant c.saturating_sub-taken.ensures c.split_at.ensures.front

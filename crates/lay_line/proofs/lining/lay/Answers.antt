@@ -37,13 +37,13 @@ pub loop-line-preserved : goal.loop-line-preserved
 loop-line-preserved g c =
     let at = g.S.Steady.at in
     let cut = c.in-Some.cut in
-    let count = length c.args.stretches.pieces.now in
+    let count = length c.args.segments.pieces.now in
     let line = c.loop-line.line in
     let one : count - line ≡ suc (count - (line + 1)) = omega (arith, c.loop-line-test.true) in
     let run = g.S.Steady.run in
     let ctx = (λ (e : Reading). context_at at c.args.frame.now.container.now e) in
     let tall = (λ (e : Reading). at c.args.frame.now.tall e) in
-    let asks = (λ (e : Reading). RestFits (ctx e) (tall e) (so_far_at at c.args.start e) (pieces_at at c.args.stretches.pieces.now e)) in
+    let asks = (λ (e : Reading). RestFits (ctx e) (tall e) (so_far_at at c.args.start e) (pieces_at at c.args.segments.pieces.now e)) in
     let cut_is = c.in-Some.ensures.1 in
     let so_far : ChainButMem (run c.args.calc.now) (run c.loop-line.calc) asks = record { goes = c.loop-line.invariant.goes; cause = c.loop-line.invariant.cause } in
     let then = next_but_mem so_far c.next_line-next.ensures.goes c.next_line-next.ensures.cause (λ f e o.
@@ -86,7 +86,7 @@ loop-line-preserved g c =
 pub returns-in-None-clause-after : goal.returns-in-None-clause-after
 returns-in-None-clause-after g c = λ e o.
     let at = g.S.Steady.at in
-    sym (after-none (context_at at c.args.frame.now.container.now e) (at c.args.frame.now.tall e) (so_far_at at c.loop-line.now e) (length c.args.stretches.pieces.now - c.loop-line.line) (parts_at at c.loop-line.rest e)
+    sym (after-none (context_at at c.args.frame.now.container.now e) (at c.args.frame.now.tall e) (so_far_at at c.loop-line.now e) (length c.args.segments.pieces.now - c.loop-line.line) (parts_at at c.loop-line.rest e)
     (parts-same at e c.loop-line.rest [] c.in-None.ensures))
     ∙ c.loop-line.invariant.after e o
 
@@ -95,21 +95,21 @@ returns-in-None-clause-added g c = λ e o.
     let at = g.S.Steady.at in
     sym (append-nil (entries_at at c.loop-line.entries e))
     ∙ ap (λ l. entries_at at c.loop-line.entries e ++ l) (sym (added-none (context_at at c.args.frame.now.container.now e) (at c.args.frame.now.tall e) (so_far_at at c.loop-line.now e)
-    (length c.args.stretches.pieces.now - c.loop-line.line) (parts_at at c.loop-line.rest e) (parts-same at e c.loop-line.rest [] c.in-None.ensures)))
+    (length c.args.segments.pieces.now - c.loop-line.line) (parts_at at c.loop-line.rest e) (parts-same at e c.loop-line.rest [] c.in-None.ensures)))
     ∙ c.loop-line.invariant.added e o
 
 pub returns-clause-after : goal.returns-clause-after
 returns-clause-after g c = λ e o.
     let at = g.S.Steady.at in
-    let none : length c.args.stretches.pieces.now - c.loop-line.line ≡ 0 = omega (arith, c.loop-line-test.false) in
-    sym (after-all (context_at at c.args.frame.now.container.now e) (at c.args.frame.now.tall e) (so_far_at at c.loop-line.now e) (length c.args.stretches.pieces.now - c.loop-line.line) (parts_at at c.loop-line.rest e) none)
+    let none : length c.args.segments.pieces.now - c.loop-line.line ≡ 0 = omega (arith, c.loop-line-test.false) in
+    sym (after-all (context_at at c.args.frame.now.container.now e) (at c.args.frame.now.tall e) (so_far_at at c.loop-line.now e) (length c.args.segments.pieces.now - c.loop-line.line) (parts_at at c.loop-line.rest e) none)
     ∙ c.loop-line.invariant.after e o
 
 pub returns-clause-added : goal.returns-clause-added
 returns-clause-added g c = λ e o.
     let at = g.S.Steady.at in
-    let none : length c.args.stretches.pieces.now - c.loop-line.line ≡ 0 = omega (arith, c.loop-line-test.false) in
+    let none : length c.args.segments.pieces.now - c.loop-line.line ≡ 0 = omega (arith, c.loop-line-test.false) in
     sym (append-nil (entries_at at c.loop-line.entries e))
     ∙ ap (λ l. entries_at at c.loop-line.entries e ++ l) (sym (added-all (context_at at c.args.frame.now.container.now e) (at c.args.frame.now.tall e) (so_far_at at c.loop-line.now e)
-    (length c.args.stretches.pieces.now - c.loop-line.line) (parts_at at c.loop-line.rest e) none))
+    (length c.args.segments.pieces.now - c.loop-line.line) (parts_at at c.loop-line.rest e) none))
     ∙ c.loop-line.invariant.added e o

@@ -4,7 +4,7 @@ use Rattle.viz_calc.specs.World.{Reading}
 use Rattle.layout_semantics.specs.InlineContent.{content}
 use Rattle.layout_semantics.specs.Lines.{SoFar as SoFarOf, before_all}
 use Rattle.viz_calc.proofs.Runs.{Goes-then}
-use Rattle.layout_semantics.specs.Stretches.{may_part}
+use Rattle.layout_semantics.specs.Segments.{may_part}
 use Rattle.lay_float.specs.Readings.{floats_at}
 use Rattle.lay_line.specs.Contexts.{context_at}
 use Rattle.lay_line.specs.Items.{items_of, bare_of}

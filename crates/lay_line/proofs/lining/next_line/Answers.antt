@@ -8,7 +8,7 @@ use Rattle.lay_line.specs.Contexts.{context_at}
 use Rattle.lay_line.specs.Lining.{so_far_at}
 use Rattle.lay_line.specs.Readings.{entries_at, held_at, load_at, loaded_at, met_at, parts_at, pieces_at}
 use Rattle.layout_semantics.specs.LineFilling.{Met as MetOf}
-use Rattle.lay_line.specs.Limits.{HoldFits, RoomFits, FillFits}
+use Rattle.lay_line.specs.Limits.{ClampFits, RoomFits, FillFits}
 use Rattle.lay_line.specs.LinesFit.{FirstFits, Start, EndFits, RestFits}
 use Rattle.lay_line.specs.steps.Held.{Held, nothing_held}
 use Rattle.lay_line.specs.steps.Leaping.{AreWide}
@@ -18,7 +18,7 @@ use Rattle.lay_line.specs.steps.Measured.{Measured, held_with}
 use Rattle.lay_line.specs.steps.Meeting.{Slot, top_in}
 use Rattle.lay_line.proofs.Chains.{start_but_mem, next_but_mem, but_mem}
 use Rattle.lay_line.proofs.Filling.{pieces_joined}
-use Rattle.lay_line.proofs.Growing.{hold_fits, before_places, top_room, tall_small, least_small, first_fits, fill_fits, end_fits}
+use Rattle.lay_line.proofs.Growing.{clamp_fits, before_places, top_room, tall_small, least_small, first_fits, fill_fits, end_fits}
 use Rattle.lay_line.proofs.AtOnce.{wide_back}
 use Rattle.lay_line.proofs.NextLines.{joined-read, taken-read, slot-is, next-is}
 use Rattle.lay_line.proofs.OnLines.{zero_small}
@@ -123,7 +123,7 @@ returns g c =
     ∙ ap (λ (x : Load × List (List Measured)). taken (joined_parts (first e ∷ rest e)) (joined_parts x.1)) (full_is e o)) in
     let one = start_but_mem {asks = asks} nothing.goes (but_mem nothing.cause) (λ f e o. (zero_small, tt)) in
     let two = next_but_mem one held.goes (but_mem held.cause) (λ f e o.
-    subst (λ (h : Held). HoldFits h (first e)) (sym (nothing.value e o)) (hold_fits (ctx e) (tall e) (so_far e) (first e) (rest e) (whole e (f e o)))) in
+    subst (λ (h : Held). ClampFits h (first e)) (sym (nothing.value e o)) (clamp_fits (ctx e) (tall e) (so_far e) (first e) (rest e) (whole e (f e o)))) in
     let three = next_but_mem two met.goes met.cause (λ f e o. before_places (ctx e) (tall e) (so_far e) (first e) (rest e) (whole e (f e o))) in
     let four = next_but_mem three top.goes (but_mem top.cause) (λ f e o.
     subst (λ l. RoomFits (ctx e) (boxes_at at l e) (so_far e).y (tall e)) (sym c.as_slice.ensures)

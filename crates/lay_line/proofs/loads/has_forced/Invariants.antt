@@ -1,6 +1,6 @@
 use Rattle.std.proofs.Common.{◌≡◌, drop}
 use Rattle.std.specs.List.{list_any}
-use Rattle.layout_semantics.specs.Stretches.{is_forced}
+use Rattle.layout_semantics.specs.Segments.{is_forced}
 use Rattle.lay_line.specs.Items.{bare_of}
 use Rattle.lay_line.proofs.loads.has_forced.Given as goal
 

@@ -13,19 +13,19 @@ use Rattle.lay_line.proofs.meeting.fits.Goals as goal
 pub returns : goal.returns
 unfolding context_at room_in
 returns g c = record {
-  goes = Goes-then _ _ _ (Goes-then _ _ _ c.band-room.ensures.goes c.band_width-across.ensures.goes) c.le.ensures.goes;
+  goes = Goes-then _ _ _ (Goes-then _ _ _ c.band-room.ensures.goes c.band_width-inline_size.ensures.goes) c.le.ensures.goes;
   value = grind (arith, common_steps);
   cause =
       let at = g.S.Steady.at in
       let run = g.S.Steady.run in
       let room = c.band-room.ensures in
-      let across = c.band_width-across.ensures in
-      let second = Blames-then (run c.args.calc.now) (run c.band-room.new.calc) (run c.band_width-across.new.calc) _ _ room.goes across.goes room.cause
+      let inline_size = c.band_width-inline_size.ensures in
+      let second = Blames-then (run c.args.calc.now) (run c.band-room.new.calc) (run c.band_width-inline_size.new.calc) _ _ room.goes inline_size.goes room.cause
       (λ f e o. (
         subst (λ (b : Band ℤ). IsSmall (b.right -ℤ b.left)) (sym (room.value e o))
             (room_small (context_at at c.args.container.now e) (boxes_at at c.args.floats.now e) (at c.args.top.now e) (at c.args.tall.now e) (f e (room.goes.closes e o))),
         tt,
       ))
-      across.cause in
-      Blames-then (run c.args.calc.now) (run c.band_width-across.new.calc) (run c.le.new.self) ⊤ _ (Goes-then _ _ _ room.goes across.goes) c.le.ensures.goes second (λ f. tt) c.le.ensures.cause;
+      inline_size.cause in
+      Blames-then (run c.args.calc.now) (run c.band_width-inline_size.new.calc) (run c.le.new.self) ⊤ _ (Goes-then _ _ _ room.goes inline_size.goes) c.le.ensures.goes second (λ f. tt) c.le.ensures.cause;
 }

@@ -12,24 +12,24 @@ use Rattle.lay_margin.proofs.leads.band_inside.Goals as goal
 pub returns : goal.returns
 unfolding inner_band
 returns g c = record {
-  goes = Goes-then _ _ _ (Goes-then _ _ _ c.across-room.ensures.goes c.block-terms.ensures.goes) c.content_between.ensures.goes;
+  goes = Goes-then _ _ _ (Goes-then _ _ _ c.inline_size-room.ensures.goes c.block-terms.ensures.goes) c.content_between.ensures.goes;
   value = λ e o.
       let later = c.content_between.ensures.goes.closes e o in
       let terms = c.block-terms.ensures.value e later in
-      let room = c.across-room.ensures.value e (c.block-terms.ensures.goes.closes e later) in
+      let room = c.inline_size-room.ensures.value e (c.block-terms.ensures.goes.closes e later) in
       c.content_between.ensures.value e o
       ∙ ap (content_from (g.S.Steady.at c.args.cb.now.left e)) (terms ∙ ap (flow_widths c.args.tree.now e.world c.args.b) room);
   cause =
       let run = g.S.Steady.run in
       let at = g.S.Steady.at in
       let tree = c.args.tree.now in
-      let room = c.across-room.ensures in
+      let room = c.inline_size-room.ensures in
       let terms = c.block-terms.ensures in
-      let first = Blames-given (run c.args.calc.now) (run c.across-room.new.calc) _ _ (λ f e o. (f e o).0) room.cause in
-      let second = Blames-then (run c.args.calc.now) (run c.across-room.new.calc) (run c.block-terms.new.calc) _ _ room.goes terms.goes first
+      let first = Blames-given (run c.args.calc.now) (run c.inline_size-room.new.calc) _ _ (λ f e o. (f e o).0) room.cause in
+      let second = Blames-then (run c.args.calc.now) (run c.inline_size-room.new.calc) (run c.block-terms.new.calc) _ _ room.goes terms.goes first
       (λ f e o. subst (BlockFits tree e.world c.args.b) (sym (room.value e o)) (f e (room.goes.closes e o)).1.0)
       terms.cause in
-      let goes = Goes-then (run c.args.calc.now) (run c.across-room.new.calc) (run c.block-terms.new.calc) room.goes terms.goes in
+      let goes = Goes-then (run c.args.calc.now) (run c.inline_size-room.new.calc) (run c.block-terms.new.calc) room.goes terms.goes in
       Blames-then (run c.args.calc.now) (run c.block-terms.new.calc) (run c.content_between.new.calc) _ _ goes c.content_between.ensures.goes second
       (λ f e o.
       let is = terms.value e o ∙ ap (flow_widths tree e.world c.args.b) (room.value e (terms.goes.closes e o)) in

@@ -6,7 +6,7 @@ use Rattle.viz_calc.proofs.Runs.{Goes-then, Blames-then}
 use Rattle.layout_semantics.specs.Horizontal.{is_auto, terms_around}
 use Rattle.lay_width.specs.Readings.{widths_at}
 use Rattle.lay_width.specs.Fitting.{own_width_of, BlockFits, BlockFitsBy, GivenBlockFits}
-use Rattle.lay_width.proofs.HeldTerms.{block-auto, block-length}
+use Rattle.lay_width.proofs.ClampedTerms.{block-auto, block-length}
 use Rattle.lay_width.proofs.engine.block.Goals as goal
 
 pub returns-then-is_auto : goal.returns-then-is_auto

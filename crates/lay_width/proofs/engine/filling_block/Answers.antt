@@ -5,7 +5,7 @@ use Rattle.viz_calc.proofs.Runs.{Goes-then, Blames-then}
 use Rattle.lay_width.specs.Readings.{widths_at}
 use Rattle.lay_width.specs.Fitting.{FillingFits, FixedFits}
 use Rattle.lay_width.specs.steps.Terms.{around, fixed_around}
-use Rattle.lay_width.proofs.HeldTerms.{filled-again, filled-fits}
+use Rattle.lay_width.proofs.ClampedTerms.{filled-again, filled-fits}
 use Rattle.lay_width.proofs.engine.filling_block.Goals as goal
 
 pub returns-in-Some : goal.returns-in-Some

@@ -7,7 +7,7 @@ use Rattle.viz_calc.proofs.Blamed.{Blames-given}
 use Rattle.viz_calc.proofs.Runs.{Goes-then, Blames-then}
 use Rattle.lay_width.specs.Readings.{preferred_at}
 use Rattle.lay_width.specs.Fitting.{fit_way}
-use Rattle.lay_width.proofs.HeldTerms.{fit-most, fit-room, fit-least}
+use Rattle.lay_width.proofs.ClampedTerms.{fit-most, fit-room, fit-least}
 use Rattle.lay_width.proofs.engine.shrink_to_fit.Goals as goal
 
 pub returns-then-le : goal.returns-then-le

@@ -1,5 +1,5 @@
 use Rattle.std.proofs.Common.{arith}
-use Rattle.lay_width.proofs.HeldTerms.{shrunk-by}
+use Rattle.lay_width.proofs.ClampedTerms.{shrunk-by}
 use Rattle.lay_width.proofs.engine.shrunk.Goals as goal
 
 pub returns-clause-value : goal.returns-clause-value

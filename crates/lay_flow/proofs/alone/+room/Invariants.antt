@@ -1,4 +1,0 @@
-use Rattle.lay_flow.proofs.alone.+room.Given as goal
-
-abbrev pub decreases-room : goal.decreases-room
-decreases-room g l = l.levels
