@@ -13,9 +13,9 @@ use Rattle.cert_text.specs.Pieces.{node_pieces, cert_pieces, lines_of, BeginsPie
 use Rattle.cert_text.specs.steps.Stream.{dues_below, Leads}
 use Rattle.cert_text.proofs.Streams.{piece_some, leads_split}
 use Rattle.cert_text.proofs.StreamNodes.{on_nodes, pieces_Def, pieces_Split, pieces_Lemma, pieces_Void, pieces_Grid, pieces_Leaf, begins_leads}
-use Rattle.cert_path.specs.Paths.{def, first, second, lemma, Path, root, ◌▸◌}
-use Rattle.cert_path.specs.Nodes.{names, splits, states, node_on, nodes_from, nodes_of}
-use Rattle.cert_path.proofs.Trees.{preorder}
+use Rattle.cert_semantics.specs.Paths.{def, first, second, lemma, Path, root, ◌▸◌}
+use Rattle.cert_semantics.specs.Nodes.{names, splits, states, node_on, nodes_from, nodes_of}
+use Rattle.cert_semantics.proofs.Trees.{preorder}
 use Rattle.cert_check.specs.steps.Stream.{own_nodes, paths_below, nodes_by, paths_after}
 
 -- ---- a certificate's nodes are those of its pieces

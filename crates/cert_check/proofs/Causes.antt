@@ -10,11 +10,11 @@ use Rattle.lin_proof.specs.Form.{form_fits, denied}
 use Rattle.lin_proof.specs.Derivations.{first_fault}
 use Rattle.lin_proof.specs.Entailments.{with_denied}
 use Rattle.cert_text.specs.declared.certificate.Cert.{Cert}
-use Rattle.cert_path.specs.Paths.{Path, variables}
-use Rattle.cert_path.specs.Facts.{facts}
-use Rattle.cert_path.specs.Nodes.{Decision, names, splits, states, is_empty, by_worlds, by_answers, Node, nodes_of}
-use Rattle.cert_path.specs.Shapes.{is_shaped}
-use Rattle.cert_path.specs.Derived.{HasReasons}
+use Rattle.cert_semantics.specs.Paths.{Path, variables}
+use Rattle.cert_semantics.specs.Facts.{facts}
+use Rattle.cert_semantics.specs.Nodes.{Decision, names, splits, states, is_empty, by_worlds, by_answers, Node, nodes_of}
+use Rattle.cert_semantics.specs.Shapes.{is_shaped}
+use Rattle.cert_semantics.specs.Derived.{HasReasons}
 use Rattle.cert_check.specs.declared.verdicts.Verdict.{Verdict}
 use Rattle.cert_check.specs.declared.verdicts.Verdict.TheVariants.{Accepted, Rejected}
 use Rattle.cert_check.specs.declared.verdicts.Reject.{Reject}

@@ -6,11 +6,11 @@ use Rattle.std.proofs.lemmas.Int.{ints}
 use Rattle.std.proofs.lemmas.Bool.{and_parts}
 use Rattle.viz_base.specs.declared.worlds.Rect.{Rect}
 use Rattle.lin_proof.specs.Form.{Form, denied}
-use Rattle.cert_path.specs.Paths.{Step, def, first, second, lemma, Path, root, ◌▸◌, form_of, variables, is_declared, AreSound}
-use Rattle.cert_path.specs.Facts.{step_facts, facts}
-use Rattle.cert_path.specs.Derived.{AreEntailed}
-use Rattle.cert_path.specs.Nodes.{names}
-use Rattle.cert_path.specs.Shapes.{has_variable, has_remainders, is_named, is_shaped}
+use Rattle.cert_semantics.specs.Paths.{Step, def, first, second, lemma, Path, root, ◌▸◌, form_of, variables, is_declared, AreSound}
+use Rattle.cert_semantics.specs.Facts.{step_facts, facts}
+use Rattle.cert_semantics.specs.Derived.{AreEntailed}
+use Rattle.cert_semantics.specs.Nodes.{names}
+use Rattle.cert_semantics.specs.Shapes.{has_variable, has_remainders, is_named, is_shaped}
 use Rattle.sym_calc.specs.declared.floors.Floor.{Floor}
 use Rattle.sym_calc.specs.Floors.{same_floor, floors_of}
 use Rattle.sym_calc.proofs.Refuted.{named_is}

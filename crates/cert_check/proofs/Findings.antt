@@ -13,8 +13,8 @@ use Rattle.cert_text.specs.Pieces.{cert_pieces, Reading, HasGiven, IsWhole, IsNe
 use Rattle.cert_text.proofs.Language.{agree_begins}
 use Rattle.cert_text.proofs.Certificates.{good_cert}
 use Rattle.cert_text.proofs.ReadingLaws.{given_whole}
-use Rattle.cert_path.specs.Paths.{root}
-use Rattle.cert_path.specs.Nodes.{Node, nodes_of}
+use Rattle.cert_semantics.specs.Paths.{root}
+use Rattle.cert_semantics.specs.Nodes.{Node, nodes_of}
 use Rattle.cert_check.specs.declared.verdicts.Verdict.{Verdict}
 use Rattle.cert_check.specs.declared.verdicts.Verdict.TheVariants.{Accepted, Rejected}
 use Rattle.cert_check.specs.declared.verdicts.Reject.{Reject}

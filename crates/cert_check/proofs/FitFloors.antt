@@ -11,9 +11,9 @@ use Rattle.lin_proof.specs.Form.{Form, Terms, IsCanonical, terms_fit, put, plus_
 use Rattle.lin_proof.proofs.Opposites.{in_i128-fit}
 use Rattle.lin_proof.proofs.Sums.{plus_term-cases, front_right}
 use Rattle.lin_proof.specs.Derivations.{are_declared}
-use Rattle.cert_path.specs.Shapes.{is_remainder, has_remainders}
-use Rattle.cert_path.specs.Laws.{IsRemainder}
-use Rattle.cert_path.proofs.FitDefs.{decides_remainder}
+use Rattle.cert_semantics.specs.Shapes.{is_remainder, has_remainders}
+use Rattle.cert_semantics.specs.Laws.{IsRemainder}
+use Rattle.cert_semantics.proofs.FitDefs.{decides_remainder}
 use Rattle.sym_calc.specs.Floors.{floor_fits}
 
 put_fits : (x : ℕ) (c : ℤ) (ts : Terms) → in_i128 c ≡ true → terms_fit ts ≡ true → terms_fit (put x c ts) ≡ true

@@ -6,12 +6,12 @@ use Rattle.viz_base.specs.declared.worlds.Rect.{Rect}
 use Rattle.viz_base.specs.declared.jobs.Job.{Job}
 use Rattle.viz_base.specs.Worlds.{IsInRange}
 use Rattle.lin_proof.specs.Form.{value}
-use Rattle.cert_path.specs.Paths.{def, first, second, lemma, Path, root, ◌▸◌, form_of, values_along, IsOn}
-use Rattle.cert_path.specs.Rectangles.{rectangle}
-use Rattle.cert_path.specs.Laws.{UnitsAreTaken}
-use Rattle.cert_path.proofs.Sides.{rectangle_is_units}
+use Rattle.cert_semantics.specs.Paths.{def, first, second, lemma, Path, root, ◌▸◌, form_of, values_along, IsOn}
+use Rattle.cert_semantics.specs.Rectangles.{rectangle}
+use Rattle.cert_semantics.specs.Laws.{UnitsAreTaken}
+use Rattle.cert_semantics.proofs.Sides.{rectangle_is_units}
 use Rattle.cert_check.specs.declared.descent.Above.{Above}
-use Rattle.cert_path.specs.Units.{is_unit}
+use Rattle.cert_semantics.specs.Units.{is_unit}
 use Rattle.cert_check.specs.Truths.{is_true_at}
 use Rattle.cert_check.specs.steps.Worlds.{first_world}
 use Rattle.cert_check.specs.steps.Descent.{path_of}

@@ -10,11 +10,11 @@ use Rattle.lin_proof.specs.declared.derivation.Derivation.{Derivation}
 use Rattle.lin_proof.specs.declared.derivation.Answer.{Answer}
 use Rattle.lin_proof.specs.Derivations.{first_fault}
 use Rattle.lin_proof.specs.Entailments.{with_denied}
-use Rattle.cert_path.specs.Paths.{Path, form_of, variables, is_declared}
-use Rattle.cert_path.specs.Facts.{facts}
-use Rattle.cert_path.specs.Nodes.{states, is_empty, by_worlds, by_answers, Node, node_on}
-use Rattle.cert_path.specs.Rectangles.{rectangle, world_count}
-use Rattle.cert_path.specs.Shapes.{has_variable, is_shaped}
+use Rattle.cert_semantics.specs.Paths.{Path, form_of, variables, is_declared}
+use Rattle.cert_semantics.specs.Facts.{facts}
+use Rattle.cert_semantics.specs.Nodes.{states, is_empty, by_worlds, by_answers, Node, node_on}
+use Rattle.cert_semantics.specs.Rectangles.{rectangle, world_count}
+use Rattle.cert_semantics.specs.Shapes.{has_variable, is_shaped}
 use Rattle.sym_calc.specs.Floors.{floors_of}
 use Rattle.sym_calc.specs.Knowledge.{AreKnown}
 use Rattle.sym_calc.specs.declared.floors.Floor.{Floor}
@@ -33,7 +33,7 @@ use Rattle.cert_check.specs.Verdicts.{IsRejected}
 use Rattle.cert_check.proofs.Descents.{sound_is}
 use Rattle.cert_check.proofs.GridWorlds.{all_computed, one_outside, all_true, first_false, on_units}
 use Rattle.cert_check.proofs.PartSides.{none_small, some_count, none_inside}
-use Rattle.cert_path.proofs.Sides.{rectangle_is_units}
+use Rattle.cert_semantics.proofs.Sides.{rectangle_is_units}
 
 -- ---- lemmas
 

@@ -9,11 +9,11 @@ use Rattle.viz_calc.specs.World.{Reading}
 use Rattle.viz_calc.specs.State.{Kept, Grows}
 use Rattle.lin_proof.specs.Form.{Form}
 use Rattle.lin_proof.specs.declared.derivation.Answer.{Answer}
-use Rattle.cert_path.specs.Paths.{Path, form_of}
-use Rattle.cert_path.specs.Facts.{facts}
-use Rattle.cert_path.specs.Shapes.{same_row}
-use Rattle.cert_path.specs.Derived.{AreRefuted}
-use Rattle.cert_path.proofs.FitDefs.{decides_same_row}
+use Rattle.cert_semantics.specs.Paths.{Path, form_of}
+use Rattle.cert_semantics.specs.Facts.{facts}
+use Rattle.cert_semantics.specs.Shapes.{same_row}
+use Rattle.cert_semantics.specs.Derived.{AreRefuted}
+use Rattle.cert_semantics.proofs.FitDefs.{decides_same_row}
 use Rattle.sym_calc.specs.declared.floors.Floor.{Floor}
 use Rattle.sym_calc.specs.declared.sym.Sym.{Sym}
 use Rattle.sym_calc.specs.declared.troubles.Trouble.{Trouble}

@@ -14,18 +14,18 @@ use Rattle.viz_base.specs.declared.worlds.Rect.{Rect}
 use Rattle.viz_base.specs.Worlds.{side_of, with_side, world_count as count_of, IsInRange}
 use Rattle.viz_base.specs.declared.jobs.Job.{Job}
 use Rattle.lin_proof.specs.Form.{Form, Terms, denied}
-use Rattle.cert_path.specs.Axes.{variable_of, axis_of, stands_for}
-use Rattle.cert_path.specs.Rectangles.{Side, Sides, cut_sides, cut_side as cut_a_side, left_by, left_by_terms, side_from, whole, rectangle, count, world_count}
-use Rattle.cert_path.specs.Paths.{Step, first, second, Path, ◌▸◌, form_of, variables}
-use Rattle.cert_path.specs.Laws.{IsInside}
-use Rattle.cert_path.proofs.Variables.{axis_has, stands}
-use Rattle.cert_path.proofs.Sides.{whole_is}
+use Rattle.cert_semantics.specs.Axes.{variable_of, axis_of, stands_for}
+use Rattle.cert_semantics.specs.Rectangles.{Side, Sides, cut_sides, cut_side as cut_a_side, left_by, left_by_terms, side_from, whole, rectangle, count, world_count}
+use Rattle.cert_semantics.specs.Paths.{Step, first, second, Path, ◌▸◌, form_of, variables}
+use Rattle.cert_semantics.specs.Laws.{IsInside}
+use Rattle.cert_semantics.proofs.Variables.{axis_has, stands}
+use Rattle.cert_semantics.proofs.Sides.{whole_is}
 use Rattle.viz_base.specs.declared.rectangles.Child.{Child}
 use Rattle.viz_base.specs.declared.rectangles.Child.TheVariants.{First, Second}
 use Rattle.viz_base.specs.declared.rectangles.Cut.{Cut}
 use Rattle.viz_base.specs.declared.rectangles.Opens.TheVariants.{Above, UpTo}
 use Rattle.viz_base.specs.Rectangles.{IsWithin, at_most, above, cut_side, toward, IsProper}
-use Rattle.cert_path.specs.Units.{coefficient_cut, terms_cut, cut_of, cut_at}
+use Rattle.cert_semantics.specs.Units.{coefficient_cut, terms_cut, cut_of, cut_at}
 use Rattle.cert_check.specs.steps.Grids.{IsPart}
 use Rattle.cert_check.proofs.Parts.{int_test, of_some_axis, of_no_axis, child_within}
 

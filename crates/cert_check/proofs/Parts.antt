@@ -11,15 +11,15 @@ use Rattle.viz_base.specs.declared.worlds.Span.{Span}
 use Rattle.viz_base.specs.declared.worlds.Rect.{Rect}
 use Rattle.viz_base.specs.Worlds.{side_of, with_side}
 use Rattle.lin_proof.specs.Form.{Form, Terms}
-use Rattle.cert_path.specs.Laws.{IsUnit}
+use Rattle.cert_semantics.specs.Laws.{IsUnit}
 use Rattle.viz_base.specs.declared.rectangles.Child.{Child}
 use Rattle.viz_base.specs.declared.rectangles.Opens.{Opens}
 use Rattle.viz_base.specs.declared.rectangles.Opens.TheVariants.{Above, UpTo}
 use Rattle.viz_base.specs.declared.rectangles.Cut.{Cut}
-use Rattle.cert_path.specs.Axes.{variable_of, axis_of, axis_count, stands_for}
-use Rattle.cert_path.proofs.Variables.{some_axis, have_variables}
+use Rattle.cert_semantics.specs.Axes.{variable_of, axis_of, axis_count, stands_for}
+use Rattle.cert_semantics.proofs.Variables.{some_axis, have_variables}
 use Rattle.viz_base.specs.Rectangles.{IsWithin, at_most, above, cut_side, toward, part_of}
-use Rattle.cert_path.specs.Units.{coefficient_cut, terms_cut, is_unit}
+use Rattle.cert_semantics.specs.Units.{coefficient_cut, terms_cut, is_unit}
 
 -- ---- unit rows
 

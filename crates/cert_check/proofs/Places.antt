@@ -14,10 +14,10 @@ use Rattle.viz_base.specs.declared.worlds.Axis.{Axis}
 use Rattle.lin_proof.specs.Form.{Form, Terms, value, terms_value}
 use Rattle.lin_proof.specs.Number.{in_i128}
 use Rattle.viz_base.specs.Worlds.{along}
-use Rattle.cert_path.specs.Axes.{axes, axis_of, number_on}
-use Rattle.cert_path.specs.Paths.{def, first, second, lemma, Path, root, ◌▸◌, form_of, variables, with_value, with_floor, values_at, values_along}
+use Rattle.cert_semantics.specs.Axes.{axes, axis_of, number_on}
+use Rattle.cert_semantics.specs.Paths.{def, first, second, lemma, Path, root, ◌▸◌, form_of, variables, with_value, with_floor, values_at, values_along}
 use Rattle.sym_calc.proofs.Knowing.{to_le}
-use Rattle.cert_path.specs.Units.{is_unit}
+use Rattle.cert_semantics.specs.Units.{is_unit}
 use Rattle.cert_check.specs.declared.descent.Above.{Above}
 use Rattle.cert_check.specs.declared.descent.Above.TheVariants.{Def, First, Second, Lemma}
 use Rattle.cert_check.specs.Numbers.{checked, add_term, sum_on, computed, are_computed}

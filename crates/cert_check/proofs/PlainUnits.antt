@@ -17,12 +17,12 @@ use Rattle.cert_text.specs.declared.certificate.CertNode.{CertNode}
 use Rattle.cert_text.specs.declared.certificate.CertNode.TheOpen.{CertNode-F}
 use Rattle.cert_text.specs.declared.certificate.CertNode.TheFolds.{fold-roll-CertNode}
 use Rattle.cert_text.specs.Texts.{Nested, head_has_text, row_has_text, terms_have_text, node_nested, node_has_text}
-use Rattle.cert_path.specs.Paths.{def, first, second, lemma, Path, root, ◌▸◌, form_of, values_along}
-use Rattle.cert_path.specs.Nodes.{splits, Node, nodes_from, nodes_of}
-use Rattle.cert_path.specs.Laws.{IsUnit}
-use Rattle.cert_path.proofs.Trees.{by_nodes, nodes-def, nodes-split, nodes-lemma, nodes-void, nodes-grid, nodes-leaf}
+use Rattle.cert_semantics.specs.Paths.{def, first, second, lemma, Path, root, ◌▸◌, form_of, values_along}
+use Rattle.cert_semantics.specs.Nodes.{splits, Node, nodes_from, nodes_of}
+use Rattle.cert_semantics.specs.Laws.{IsUnit}
+use Rattle.cert_semantics.proofs.Trees.{by_nodes, nodes-def, nodes-split, nodes-lemma, nodes-void, nodes-grid, nodes-leaf}
 use Rattle.cert_check.specs.Numbers.{computed, are_computed}
-use Rattle.cert_path.specs.Units.{is_unit, AreUnits}
+use Rattle.cert_semantics.specs.Units.{is_unit, AreUnits}
 use Rattle.cert_check.specs.Right.{IsWithin128, IsUnitOrGrid}
 use Rattle.cert_check.specs.Laws.{UnitsArePlain}
 use Rattle.cert_check.proofs.Parts.{unit_is_unit_row}

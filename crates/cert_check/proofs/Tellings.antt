@@ -17,12 +17,12 @@ use Rattle.cert_text.specs.declared.certificate.CertNode.TheVariants.{Def, Split
 use Rattle.cert_text.specs.declared.certificate.CertNode.TheViews.{the_lemmas}
 use Rattle.cert_text.specs.declared.certificate.CertNode.TheFolds.{fold-roll-CertNode, fold_out-CertNode}
 use Rattle.cert_text.specs.Nodes.{node_count}
-use Rattle.cert_path.specs.Paths.{def, first, second, lemma, Path, root, ◌▸◌, IsOn}
-use Rattle.cert_path.specs.Nodes.{Decision, names, splits, states, is_empty, by_worlds, by_answers, is_laid_out, Node, node_on, nodes_from, nodes_of}
-use Rattle.cert_path.specs.Shapes.{is_shaped}
-use Rattle.cert_path.specs.Derived.{HasReasons, IsReasoned}
-use Rattle.cert_path.proofs.Trees.{preorder, by_nodes, nodes-def, nodes-split, nodes-lemma, nodes-void, nodes-grid, nodes-leaf}
-use Rattle.cert_path.proofs.LaidOut.{one_laid_out}
+use Rattle.cert_semantics.specs.Paths.{def, first, second, lemma, Path, root, ◌▸◌, IsOn}
+use Rattle.cert_semantics.specs.Nodes.{Decision, names, splits, states, is_empty, by_worlds, by_answers, is_laid_out, Node, node_on, nodes_from, nodes_of}
+use Rattle.cert_semantics.specs.Shapes.{is_shaped}
+use Rattle.cert_semantics.specs.Derived.{HasReasons, IsReasoned}
+use Rattle.cert_semantics.proofs.Trees.{preorder, by_nodes, nodes-def, nodes-split, nodes-lemma, nodes-void, nodes-grid, nodes-leaf}
+use Rattle.cert_semantics.proofs.LaidOut.{one_laid_out}
 use Rattle.cert_check.specs.declared.verdicts.Verdict.TheVariants.{Accepted}
 use Rattle.cert_check.specs.declared.verdicts.Reject.{Reject}
 use Rattle.cert_check.specs.declared.verdicts.Reject.TheVariants.{OtherJob, Shape, Line, Untrue, Unmet, Differs, Short, Left, Coeff}

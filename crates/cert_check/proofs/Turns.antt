@@ -7,17 +7,17 @@ use Rattle.std.proofs.lemmas.Option.{same_Some}
 use Rattle.viz_base.specs.declared.jobs.Job.{Job}
 use Rattle.viz_base.specs.declared.worlds.Rect.{Rect}
 use Rattle.lin_proof.specs.Form.{Form, form_fits, denied}
-use Rattle.cert_path.specs.Axes.{axis_count}
-use Rattle.cert_path.specs.Paths.{def, first, second, lemma, Path, root, ◌▸◌, form_of, is_declared, variables}
-use Rattle.cert_path.specs.Nodes.{Node}
-use Rattle.cert_path.specs.Rectangles.{rectangle}
+use Rattle.cert_semantics.specs.Axes.{axis_count}
+use Rattle.cert_semantics.specs.Paths.{def, first, second, lemma, Path, root, ◌▸◌, form_of, is_declared, variables}
+use Rattle.cert_semantics.specs.Nodes.{Node}
+use Rattle.cert_semantics.specs.Rectangles.{rectangle}
 use Rattle.viz_base.specs.declared.rectangles.Child.TheVariants as of_child
 use Rattle.cert_check.specs.declared.visits.Last.{Last}
 use Rattle.cert_check.specs.declared.visits.Last.TheVariants.{First, Other}
 use Rattle.cert_check.specs.declared.visits.Pending.{Pending}
 use Rattle.cert_check.specs.declared.visits.Visits.{Visits}
 use Rattle.viz_base.specs.Rectangles.{IsWithin}
-use Rattle.cert_path.specs.Units.{cut_of, cut_at}
+use Rattle.cert_semantics.specs.Units.{cut_of, cut_at}
 use Rattle.cert_check.specs.steps.Grids.{IsPart}
 use Rattle.cert_check.specs.declared.descent.Above.{Above}
 use Rattle.cert_check.specs.declared.descent.Above.TheVariants as of_above

@@ -4,9 +4,9 @@ use Rattle.viz_base.specs.declared.jobs.Job.{Job}
 use Rattle.lin_proof.specs.Form.{Form}
 use Rattle.cert_text.specs.declared.certificate.Cert.{Cert}
 use Rattle.cert_text.specs.Texts.{CertText}
-use Rattle.cert_path.specs.Laws.{IsUnit}
+use Rattle.cert_semantics.specs.Laws.{IsUnit}
 use Rattle.cert_check.specs.declared.verdicts.Verdict.{Verdict}
-use Rattle.cert_path.specs.Units.{is_unit}
+use Rattle.cert_semantics.specs.Units.{is_unit}
 use Rattle.cert_check.specs.Truths.{Holds}
 use Rattle.cert_check.specs.Right.{Right, IsPlainlyComputed, HasNoLeaf, AreUnitsAndGrids}
 use Rattle.cert_check.specs.Verdicts.{IsVerdict}

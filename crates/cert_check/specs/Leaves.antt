@@ -9,9 +9,9 @@ use Rattle.viz_calc.specs.World.{Reading}
 use Rattle.viz_calc.specs.State.{Grows}
 use Rattle.lin_proof.specs.Form.{Form}
 use Rattle.lin_proof.specs.declared.derivation.Answer.{Answer}
-use Rattle.cert_path.specs.Paths.{Path, form_of, AreSound}
-use Rattle.cert_path.specs.Facts.{facts}
-use Rattle.cert_path.specs.Derived.{AreEntailed, AreRefuted}
+use Rattle.cert_semantics.specs.Paths.{Path, form_of, AreSound}
+use Rattle.cert_semantics.specs.Facts.{facts}
+use Rattle.cert_semantics.specs.Derived.{AreEntailed, AreRefuted}
 use Rattle.sym_calc.specs.declared.sym.Sym.{Sym}
 use Rattle.sym_calc.specs.declared.troubles.Trouble.{Trouble}
 use Rattle.sym_calc.specs.declared.troubles.Trouble.TheVariants as of_trouble

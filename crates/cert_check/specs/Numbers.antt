@@ -4,10 +4,10 @@ use Rattle.viz_base.specs.declared.worlds.World.{World}
 use Rattle.viz_base.specs.declared.worlds.Rect.{Rect}
 use Rattle.lin_proof.specs.Form.{Form, Terms}
 use Rattle.lin_proof.specs.Number.{in_i128}
-use Rattle.cert_path.specs.Paths.{def, first, second, lemma, Path, root, ◌▸◌, form_of, values_along}
-use Rattle.cert_path.specs.Rectangles.{rectangle}
-use Rattle.cert_path.specs.Laws.{IsInside}
-use Rattle.cert_path.specs.Units.{is_unit}
+use Rattle.cert_semantics.specs.Paths.{def, first, second, lemma, Path, root, ◌▸◌, form_of, values_along}
+use Rattle.cert_semantics.specs.Rectangles.{rectangle}
+use Rattle.cert_semantics.specs.Laws.{IsInside}
+use Rattle.cert_semantics.specs.Units.{is_unit}
 
 abbrev pub checked : ℤ → Option ℤ
 checked z = if in_i128 z then Some z else None

@@ -6,12 +6,12 @@ use Rattle.lin_proof.specs.Form.{form_fits, denied}
 use Rattle.lin_proof.specs.Derivations.{Refutes}
 use Rattle.lin_proof.specs.Entailments.{Entails}
 use Rattle.cert_text.specs.declared.certificate.Cert.{Cert}
-use Rattle.cert_path.specs.Paths.{Path, variables}
-use Rattle.cert_path.specs.Facts.{facts}
-use Rattle.cert_path.specs.Nodes.{Decision, names, splits, states, is_empty, by_worlds, by_answers, Node, nodes_of}
-use Rattle.cert_path.specs.Shapes.{has_shape}
-use Rattle.cert_path.specs.Derived.{AreRefuted, HasReasons}
-use Rattle.cert_path.specs.Laws.{IsUnit}
+use Rattle.cert_semantics.specs.Paths.{Path, variables}
+use Rattle.cert_semantics.specs.Facts.{facts}
+use Rattle.cert_semantics.specs.Nodes.{Decision, names, splits, states, is_empty, by_worlds, by_answers, Node, nodes_of}
+use Rattle.cert_semantics.specs.Shapes.{has_shape}
+use Rattle.cert_semantics.specs.Derived.{AreRefuted, HasReasons}
+use Rattle.cert_semantics.specs.Laws.{IsUnit}
 use Rattle.cert_check.specs.Truths.{IsTrueOn}
 use Rattle.cert_check.specs.Numbers.{IsComputed}
 

@@ -8,7 +8,7 @@ use Rattle.layout_semantics.specs.Page.{page_rendering}
 use Rattle.viz_base.specs.Worlds.{IsInRange}
 use Rattle.logic_semantics.specs.Ranges.{holds_at}
 use Rattle.logic_semantics.specs.Ranges.{Holds as HoldsOver}
-use Rattle.cert_path.specs.Paths.{Path, IsOn}
+use Rattle.cert_semantics.specs.Paths.{Path, IsOn}
 
 -- the rendering of a job's page at a world
 abbrev pub rendering_of : Job → World → Rendering ℤ

@@ -2,7 +2,7 @@ ghost use Rattle.std.specs.Prelude.{◌≡◌, ◌↔◌, ◌+◌, ◌<◌, ◌�
 ghost use Rattle.cert_text.specs.Pieces.{HasGiven, bytes_of};
 ghost use Rattle.cert_text.specs.Texts.{CertText};
 ghost use Rattle.cert_text.specs.declared.certificate.Cert.{Cert};
-ghost use Rattle.cert_path.specs.Axes.{axis_count};
+ghost use Rattle.cert_semantics.specs.Axes.{axis_count};
 ghost use Rattle.cert_check.specs.Bytes.{IsBytesVerdict, IsFront};
 ghost use Rattle.cert_check.specs.Right.{AreUnitsAndGrids, IsPlainlyComputed, Right};
 ghost use Rattle.cert_check.specs.Truths.{Holds};

@@ -1,15 +1,15 @@
 ghost use Rattle.std.specs.Prelude.{◌≡◌, ◌<◌, ◌^◌, [], IfOk, IsTrue, OnOk};
 ghost use Rattle.lin_proof.specs.Form.{IsCanonical, denied, form_fits};
-ghost use Rattle.cert_path.specs.Facts.{facts};
-ghost use Rattle.cert_path.specs.Nodes.{names};
-ghost use Rattle.cert_path.specs.Paths.{def, first, second, lemma, ◌▸◌, is_declared, variables};
-ghost use Rattle.cert_path.specs.Shapes.{is_shaped};
-ghost use Rattle.cert_path.specs.Derived.{AreEntailed, IsEntailed};
+ghost use Rattle.cert_semantics.specs.Facts.{facts};
+ghost use Rattle.cert_semantics.specs.Nodes.{names};
+ghost use Rattle.cert_semantics.specs.Paths.{def, first, second, lemma, ◌▸◌, is_declared, variables};
+ghost use Rattle.cert_semantics.specs.Shapes.{is_shaped};
+ghost use Rattle.cert_semantics.specs.Derived.{AreEntailed, IsEntailed};
 ghost use Rattle.sym_calc.specs.Floors.{floors_of};
 ghost use Rattle.sym_calc.specs.Laws.{origin_of};
 ghost use Rattle.cert_check.specs.steps.Descent.{path_of, are_sound, entailed_above, is_below_def, is_below_row, outer_of};
 
-use cert_path::axis_count;
+use cert_semantics::axis_count;
 use lin_proof::{Row, RowFault};
 use std::alloc::{AllocError, Global};
 use sym_calc::{Floor, Path};

@@ -1,7 +1,7 @@
 ghost use Rattle.std.specs.Prelude.{◌≡◌, ◌↔◌, ◌+◌, ◌<◌, ◌^◌, ℕ, List, length, IsTrue, IfOk};
 ghost use Rattle.cert_text.specs.Texts.{CertText};
-ghost use Rattle.cert_path.specs.Axes.{axis_count};
-ghost use Rattle.cert_path.specs.Nodes.{nodes_of};
+ghost use Rattle.cert_semantics.specs.Axes.{axis_count};
+ghost use Rattle.cert_semantics.specs.Nodes.{nodes_of};
 ghost use Rattle.cert_check.specs.Truths.{Holds};
 ghost use Rattle.cert_check.specs.Right.{Right, IsPlainlyComputed, AreUnitsAndGrids};
 ghost use Rattle.cert_check.specs.Verdicts.{IsVerdict};

@@ -2,7 +2,7 @@
 ghost use Rattle.std.specs.Prelude.{◌≤◌, ℕ, List, length};
 ghost use Rattle.cert_text.specs.declared.certificate.Cert.{Cert};
 ghost use Rattle.cert_text.specs.Texts.{CertText};
-ghost use Rattle.cert_path.specs.Nodes.{nodes_of};
+ghost use Rattle.cert_semantics.specs.Nodes.{nodes_of};
 ghost use Rattle.cert_check.specs.Laws.{OneVerdict, RightHolds, UnitIsUnitRow, UnitsArePlain};
 
 /// A job holds for which some certificate is right that is plainly computed.

@@ -5,7 +5,7 @@ ghost use Rattle.viz_calc.specs.State.{Grows, is_told, WhereOpen};
 ghost use Rattle.sym_calc.specs.Calc.{state_of};
 ghost use Rattle.logic_semantics.specs.Ranges.{holds_at};
 ghost use Rattle.cert_check.specs.Truths.{is_true_at, rendering_of};
-ghost use Rattle.cert_path.specs.Paths.{Path};
+ghost use Rattle.cert_semantics.specs.Paths.{Path};
 ghost use Rattle.cert_check.specs.Leaves.{StandsOver, IsLeafVerdict, IsTold, TakesRight, reject_of};
 
 use crate::truths::truth_over;

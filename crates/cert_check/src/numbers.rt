@@ -1,12 +1,12 @@
 ghost use Rattle.std.specs.Prelude.{◌≡◌, map, pos, IfOk, IsTrue};
 ghost use Rattle.std.specs.Option.{option_map};
 ghost use Rattle.viz_base.specs.Worlds.{along};
-ghost use Rattle.cert_path.specs.Axes.{axes};
+ghost use Rattle.cert_semantics.specs.Axes.{axes};
 ghost use Rattle.cert_check.specs.Numbers.{add_term, computed, sum_on};
 ghost use Rattle.cert_check.specs.steps.Grids.{value_in, pass, place_of, are_above_zero, is_above_zero};
 
 use crate::descent::Above;
-use cert_path::{along, cut_of};
+use cert_semantics::{along, cut_of};
 use lin_proof::Row;
 use std::alloc::Global;
 use viz_base::{Axis, List, Mem, World};

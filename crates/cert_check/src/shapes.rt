@@ -3,9 +3,9 @@ ghost use Rattle.std.specs.Int.Signed.{lt_z};
 ghost use Rattle.std.specs.List.{list_all};
 ghost use Rattle.lin_proof.specs.Form.{denied, form_fits};
 ghost use Rattle.lin_proof.specs.Derivations.{are_declared};
-ghost use Rattle.cert_path.specs.Nodes.{names, splits};
-ghost use Rattle.cert_path.specs.Paths.{is_declared, variables};
-ghost use Rattle.cert_path.specs.Shapes.{has_remainders, has_variable, is_remainder, is_shaped};
+ghost use Rattle.cert_semantics.specs.Nodes.{names, splits};
+ghost use Rattle.cert_semantics.specs.Paths.{is_declared, variables};
+ghost use Rattle.cert_semantics.specs.Shapes.{has_remainders, has_variable, is_remainder, is_shaped};
 ghost use Rattle.cert_check.specs.steps.Ways.{path_at};
 
 use crate::descent::Descent;

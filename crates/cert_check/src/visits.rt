@@ -1,9 +1,9 @@
 ghost use Rattle.std.specs.Prelude.{◌≡◌, ◌+◌, ◌<◌, ◌^◌, [], ◌∷◌, ◌++◌, length, Some, IfOk, OnOk};
 ghost use Rattle.viz_base.specs.declared.jobs.Job.{Job};
 ghost use Rattle.cert_text.specs.declared.certificate.Piece.TheVariants as of_piece;
-ghost use Rattle.cert_path.specs.Axes.{axis_count};
-ghost use Rattle.cert_path.specs.Nodes.{Node};
-ghost use Rattle.cert_path.specs.Paths.{root};
+ghost use Rattle.cert_semantics.specs.Axes.{axis_count};
+ghost use Rattle.cert_semantics.specs.Nodes.{Node};
+ghost use Rattle.cert_semantics.specs.Paths.{root};
 ghost use Rattle.cert_check.specs.declared.visits.Last.TheVariants.{First};
 ghost use Rattle.cert_check.specs.steps.Stream.{CanTurn, IsDue, IsReady, due_behind, last_of, nodes_here, seconds};
 ghost use Rattle.cert_check.specs.steps.Tells.{Judges, Tells};

@@ -1,7 +1,7 @@
 //! The certificates of a file, one behind another.
 ghost use Rattle.std.specs.Prelude.{◌≡◌, ◌+◌, ◌<◌, ◌^◌, length, IfErr, IfOk};
 ghost use Rattle.cert_text.specs.Pieces.{bytes_of};
-ghost use Rattle.cert_path.specs.Axes.{axis_count};
+ghost use Rattle.cert_semantics.specs.Axes.{axis_count};
 ghost use Rattle.cert_check.specs.steps.Stream.{HasFault, IsOneMore};
 ghost use Rattle.cert_file.specs.Files.{IsFileVerdict};
 ghost use Rattle.cert_file.specs.steps.UpTo.{HasText, IsFound, IsJudged, wrong_of};

@@ -1,6 +1,6 @@
 use crate::lengths::row_length;
 use crate::reach::{Reach, short_length};
-use cert_path::axis_count;
+use cert_semantics::axis_count;
 use cert_text::CertNode;
 use lin_proof::Answer;
 use std::alloc::Global;

@@ -1,7 +1,7 @@
 use crate::reach::{Reach, short_length};
 use crate::renaming::{Renaming, copied};
 use crate::survey::{Group, Survey};
-use cert_path::axis_count;
+use cert_semantics::axis_count;
 use cert_text::CertNode;
 use lin_proof::{Answer, Derivation, Ending, Row, RowFault, Step};
 use std::alloc::Global;

@@ -1,7 +1,7 @@
 ghost use Rattle.std.specs.Prelude.{◌≡◌, ◌+◌, IfSome, length};
-ghost use Rattle.cert_path.specs.Axes.{axis_count};
+ghost use Rattle.cert_semantics.specs.Axes.{axis_count};
 
-use cert_path::{axis_count, variable_of};
+use cert_semantics::{axis_count, variable_of};
 use lin_proof::Row;
 use std::alloc::Global;
 use sym_calc::Path;

@@ -1,6 +1,6 @@
 use crate::footing::Footing;
 use crate::trouble::Trouble;
-use cert_path::variable_of;
+use cert_semantics::variable_of;
 use indexmap::IndexMap;
 use lin_proof::Row;
 use std::alloc::Global;

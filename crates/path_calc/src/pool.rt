@@ -1,5 +1,5 @@
 use crate::values::{floor_of, value_of};
-use cert_path::{along, axis_count, axis_of, variable_of};
+use cert_semantics::{along, axis_count, axis_of, variable_of};
 use lin_proof::Row;
 use std::alloc::Global;
 use viz_base::{Axis, Mem, Rect, World};

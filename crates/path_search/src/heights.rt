@@ -1,7 +1,7 @@
 //! Whether the viewport's height matters to a page: where it doesn't, the search looks at one height for all.
 use crate::runs::truth_over;
 use crate::seeking::middle_and_ends;
-use cert_path::{axis_count, axis_of};
+use cert_semantics::{axis_count, axis_of};
 use lin_proof::Row;
 use path_calc::Digesting;
 use std::alloc::{AllocError, Global};

@@ -2,7 +2,7 @@
 ghost use Rattle.std.specs.Prelude.{◌≡◌};
 
 use crate::seeking::{Place, Stop, cut_once, open_premise};
-use cert_path::cut_of;
+use cert_semantics::cut_of;
 use lin_proof::Row;
 use path_calc::{Known, Opening, Pool};
 use viz_base::{Rect, World};

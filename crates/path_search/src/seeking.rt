@@ -5,7 +5,7 @@ use crate::rectangles::{Budget, budget_of, rectangle};
 use crate::runs::{Outcome, ask_premises, outcome_of, truth_over};
 use crate::slices::{ends_met, pools_under, slices_of};
 use crate::tiling::{Cut, cut_of_flat, cut_of_tiles};
-use cert_path::{axis_of, cut_of, variable_of};
+use cert_semantics::{axis_of, cut_of, variable_of};
 use cert_text::{Cert, CertNode};
 use lin_proof::{Derivation, Row, RowFault};
 use lin_search::{Search, refute};

@@ -23,17 +23,17 @@ use Rattle.cert_text.specs.declared.certificate.CertNode.TheFolds.{fold-roll-Cer
 use Rattle.cert_text.specs.Texts.{Nested, node_text, node_has_text}
 use Rattle.cert_text.specs.steps.Write.{row_bytes}
 use Rattle.cert_text.proofs.NodeTexts.{text_Grid, text_Split, nested_Grid, nested_Split}
-use Rattle.cert_path.specs.Axes.{axis_count, variable_of}
-use Rattle.cert_path.proofs.Variables.{two_axes, own_axis}
-use Rattle.cert_path.specs.Paths.{first, second, Path, ◌▸◌, form_of, variables}
-use Rattle.cert_path.specs.Rectangles.{rectangle, left_by}
-use Rattle.cert_path.specs.Nodes.{by_worlds, splits, node_on, nodes_from}
-use Rattle.cert_path.specs.Shapes.{is_shaped}
-use Rattle.cert_path.proofs.Sides.{rectangle_is_units}
-use Rattle.cert_path.proofs.Trees.{preorder}
-use Rattle.cert_path.proofs.Values.{axes_declared}
+use Rattle.cert_semantics.specs.Axes.{axis_count, variable_of}
+use Rattle.cert_semantics.proofs.Variables.{two_axes, own_axis}
+use Rattle.cert_semantics.specs.Paths.{first, second, Path, ◌▸◌, form_of, variables}
+use Rattle.cert_semantics.specs.Rectangles.{rectangle, left_by}
+use Rattle.cert_semantics.specs.Nodes.{by_worlds, splits, node_on, nodes_from}
+use Rattle.cert_semantics.specs.Shapes.{is_shaped}
+use Rattle.cert_semantics.proofs.Sides.{rectangle_is_units}
+use Rattle.cert_semantics.proofs.Trees.{preorder}
+use Rattle.cert_semantics.proofs.Values.{axes_declared}
 use Rattle.viz_base.specs.Rectangles.{IsWithin, IsProper}
-use Rattle.cert_path.specs.Units.{is_unit, row_up_to}
+use Rattle.cert_semantics.specs.Units.{is_unit, row_up_to}
 use Rattle.cert_check.specs.Truths.{is_true_at}
 use Rattle.cert_check.specs.Truths.{IsTrueIn, IsFirstUntrueIn}
 use Rattle.cert_check.specs.Right.{IsGood}

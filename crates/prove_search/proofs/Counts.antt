@@ -3,8 +3,8 @@ use Rattle.std.proofs.Common.{ℕ, ◌+◌, ◌<◌, ◌≤◌, ◌^◌, ◌==�
 use Rattle.viz_base.specs.declared.worlds.Axis.TheVariants.{Width, Size, Height}
 use Rattle.cert_text.specs.declared.certificate.Cert.{Cert}
 use Rattle.cert_text.specs.Texts.{CertText}
-use Rattle.cert_path.specs.Axes.{axis_count}
-use Rattle.cert_path.specs.Nodes.{nodes_of}
+use Rattle.cert_semantics.specs.Axes.{axis_count}
+use Rattle.cert_semantics.specs.Nodes.{nodes_of}
 use Rattle.cert_check.proofs.Texts.{few}
 
 -- a form has two or three axes

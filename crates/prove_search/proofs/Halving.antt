@@ -12,12 +12,12 @@ use Rattle.viz_base.specs.declared.worlds.Span.{Span}
 use Rattle.viz_base.specs.declared.worlds.Rect.{Rect}
 use Rattle.viz_base.specs.Worlds.{along, side_of, with_side, span_count, world_count, IsInRange}
 use Rattle.lin_proof.specs.Form.{denied}
-use Rattle.cert_path.specs.Axes.{variable_of, axis_count}
-use Rattle.cert_path.specs.Rectangles.{Side, whole, left_by}
+use Rattle.cert_semantics.specs.Axes.{variable_of, axis_count}
+use Rattle.cert_semantics.specs.Rectangles.{Side, whole, left_by}
 use Rattle.viz_base.specs.Rectangles.{IsWithin, IsProper}
 use Rattle.viz_base.specs.declared.halves.Halves.{Halves}
 use Rattle.viz_base.specs.Halves.{middle, up_to, above, halves_at, halves_of, length_on, longer_of, longest_axis}
-use Rattle.cert_path.specs.Units.{row_up_to}
+use Rattle.cert_semantics.specs.Units.{row_up_to}
 use Rattle.prove_search.specs.steps.Finds.{HasLevels}
 
 -- ---- a side

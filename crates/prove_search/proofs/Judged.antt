@@ -3,8 +3,8 @@ use Rattle.std.proofs.Common.{ℕ, List, arith}
 use Rattle.viz_base.specs.declared.worlds.World.{World}
 use Rattle.viz_base.specs.declared.jobs.Job.{Job}
 use Rattle.cert_text.specs.declared.certificate.Cert.{Cert}
-use Rattle.cert_path.specs.Paths.{Path}
-use Rattle.cert_path.specs.Nodes.{Decision, names, splits, states, is_empty, by_worlds, by_answers}
+use Rattle.cert_semantics.specs.Paths.{Path}
+use Rattle.cert_semantics.specs.Nodes.{Decision, names, splits, states, is_empty, by_worlds, by_answers}
 use Rattle.cert_check.specs.declared.verdicts.Verdict.TheVariants.{Rejected}
 use Rattle.cert_check.specs.declared.verdicts.Reject.TheVariants.{Untrue}
 use Rattle.cert_check.specs.Verdicts.{IsFault, Passes, IsVerdict}

@@ -10,7 +10,7 @@ use Rattle.viz_base.specs.Jobs.{IsRange}
 use Rattle.viz_base.specs.declared.worlds.Rect.{Rect}
 use Rattle.viz_base.specs.declared.jobs.Job.{Job}
 use Rattle.cert_text.specs.Texts.{job_has_text, cert_text}
-use Rattle.cert_path.specs.Paths.{root}
+use Rattle.cert_semantics.specs.Paths.{root}
 use Rattle.cert_check.proofs.Tellings.{is_right}
 use Rattle.prove_search.specs.declared.plain.Closed.{Closed}
 use Rattle.prove_search.specs.Outcomes.{IsProof, plain_most}

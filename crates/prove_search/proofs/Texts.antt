@@ -6,10 +6,10 @@ use Rattle.std.proofs.lemmas.Bool.Decides.{Decides-ltb}
 use Rattle.viz_base.specs.declared.worlds.Axis.{Axis}
 use Rattle.viz_base.specs.declared.worlds.Axis.TheVariants.{Width, Size, Height}
 use Rattle.lin_proof.specs.Number.{in_i128}
-use Rattle.cert_path.specs.Axes.{variable_of}
+use Rattle.cert_semantics.specs.Axes.{variable_of}
 use Rattle.cert_text.specs.Texts.{row_has_text}
 use Rattle.cert_text.specs.steps.Write.{row_bytes}
-use Rattle.cert_path.specs.Units.{row_up_to}
+use Rattle.cert_semantics.specs.Units.{row_up_to}
 
 -- a number of `i128`, and the one below its opposite
 pub in_width : (m : ℕ) → m ≤ 16384 → (in_i128 (pos m) ≡ true) × (in_i128 (negsuc m) ≡ true)

@@ -5,13 +5,13 @@ ghost use Rattle.viz_base.specs.Rectangles.{IsProper, IsWithin};
 ghost use Rattle.viz_base.specs.Worlds.{world_count};
 ghost use Rattle.cert_check.specs.Truths.{Holds};
 ghost use Rattle.prove_search.specs.steps.Finds.{IsFinding};
-ghost use Rattle.cert_path.specs.Units.{row_up_to};
+ghost use Rattle.cert_semantics.specs.Units.{row_up_to};
 ghost use Rattle.prove_search.specs.Outcomes.{IsOutcome, Decides, plain_most};
 ghost use Rattle.prove_search.specs.declared.outcome.Outcome.TheVariants.{Undecided};
 
 use crate::outcome::Outcome;
 use cert_check::first_untrue;
-use cert_path::variable_of;
+use cert_semantics::variable_of;
 use cert_text::{Cert, CertNode, write_cert};
 use lin_proof::Row;
 use std::alloc::Global;

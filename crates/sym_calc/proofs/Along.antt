@@ -12,13 +12,13 @@ use Rattle.viz_base.specs.Worlds.{along, side_of, IsInRange}
 use Rattle.viz_base.specs.Jobs.{IsFormed}
 use Rattle.lin_proof.specs.Form.{Form, denied}
 use Rattle.lin_proof.specs.Derivations.{are_declared}
-use Rattle.cert_path.specs.Axes.{variable_of, axes, axis_count}
-use Rattle.cert_path.specs.Paths.{def, first, second, lemma, Path as Steps, root, ◌▸◌, form_of, variables, with_floor, values_along, IsOn}
-use Rattle.cert_path.specs.Facts.{row_of, side_facts, range_facts, step_facts, facts}
-use Rattle.cert_path.specs.Laws.{AreAlong}
-use Rattle.cert_path.proofs.Values.{declared_local, denied_local, row_local, axes_along}
-use Rattle.cert_path.proofs.Variables.{by_form, two, three}
-use Rattle.cert_path.proofs.PathFacts.{facts_hold, facts_say_all, to_meets, from_meets}
+use Rattle.cert_semantics.specs.Axes.{variable_of, axes, axis_count}
+use Rattle.cert_semantics.specs.Paths.{def, first, second, lemma, Path as Steps, root, ◌▸◌, form_of, variables, with_floor, values_along, IsOn}
+use Rattle.cert_semantics.specs.Facts.{row_of, side_facts, range_facts, step_facts, facts}
+use Rattle.cert_semantics.specs.Laws.{AreAlong}
+use Rattle.cert_semantics.proofs.Values.{declared_local, denied_local, row_local, axes_along}
+use Rattle.cert_semantics.proofs.Variables.{by_form, two, three}
+use Rattle.cert_semantics.proofs.PathFacts.{facts_hold, facts_say_all, to_meets, from_meets}
 use Rattle.sym_calc.specs.declared.floors.Floor.{Floor}
 use Rattle.sym_calc.specs.Floors.{floors_of, values_by}
 use Rattle.sym_calc.specs.Knowledge.{has_height, has_numbers, are_met, is_kept, AreKnown}

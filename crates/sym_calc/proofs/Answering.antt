@@ -7,7 +7,7 @@ use Rattle.lin_proof.proofs.Values.{value-denied}
 use Rattle.lin_proof.specs.declared.derivation.Derivation.{Derivation}
 use Rattle.lin_proof.specs.Derivations.{first_fault}
 use Rattle.lin_proof.proofs.Sound.{law}
-use Rattle.cert_path.proofs.PathFacts.{to_meets}
+use Rattle.cert_semantics.proofs.PathFacts.{to_meets}
 use Rattle.sym_calc.specs.Knowledge.{are_met, contrary}
 use Rattle.sym_calc.proofs.Knowing.{met_all, are_met-append}
 

@@ -7,9 +7,9 @@ use Rattle.viz_calc.specs.declared.calc.Halt.{Halt}
 use Rattle.viz_calc.specs.declared.calc.Halt.TheVariants.{Mem, Coeff, Open}
 use Rattle.lin_proof.specs.Form.{Form, Terms, form_fits, plus}
 use Rattle.lin_proof.specs.Derivations.{are_declared}
-use Rattle.cert_path.specs.Axes.{axis_count}
-use Rattle.cert_path.specs.Facts.{row_of}
-use Rattle.cert_path.specs.Shapes.{has_variable}
+use Rattle.cert_semantics.specs.Axes.{axis_count}
+use Rattle.cert_semantics.specs.Facts.{row_of}
+use Rattle.cert_semantics.specs.Shapes.{has_variable}
 use Rattle.sym_calc.specs.declared.floors.Floor.{Floor}
 use Rattle.sym_calc.specs.Division.{quotient, remainder}
 use Rattle.sym_calc.specs.Floors.{same_floor, floor_fits}

@@ -15,12 +15,12 @@ use Rattle.viz_base.specs.Worlds.{along}
 use Rattle.viz_calc.specs.World.{Reading}
 use Rattle.lin_proof.specs.Form.{Form, value, plus}
 use Rattle.lin_proof.specs.Derivations.{are_declared}
-use Rattle.cert_path.specs.Axes.{axis_count, variable_of}
-use Rattle.cert_path.specs.Paths.{def, with_value, with_floor, values_at}
-use Rattle.cert_path.specs.Facts.{row_of, step_facts}
-use Rattle.cert_path.proofs.Values.{Agree, Local, declared_local, plus_local, row_local, more_local, with_old, with_new}
-use Rattle.cert_path.proofs.PathFacts.{AllMeet, floor_holds, floor_said}
-use Rattle.cert_path.proofs.Variables.{by_form}
+use Rattle.cert_semantics.specs.Axes.{axis_count, variable_of}
+use Rattle.cert_semantics.specs.Paths.{def, with_value, with_floor, values_at}
+use Rattle.cert_semantics.specs.Facts.{row_of, step_facts}
+use Rattle.cert_semantics.proofs.Values.{Agree, Local, declared_local, plus_local, row_local, more_local, with_old, with_new}
+use Rattle.cert_semantics.proofs.PathFacts.{AllMeet, floor_holds, floor_said}
+use Rattle.cert_semantics.proofs.Variables.{by_form}
 use Rattle.sym_calc.specs.declared.floors.Floor.{Floor}
 use Rattle.sym_calc.specs.declared.paths.Origin.{Origin}
 use Rattle.sym_calc.specs.Floors.{with_floors, values_by}

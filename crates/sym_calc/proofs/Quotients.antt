@@ -8,8 +8,8 @@ use Rattle.lin_proof.specs.Form.{Form, Terms, terms_value, value, put, plus, IsA
 use Rattle.lin_proof.proofs.Sums.{IsAbove-put, IsCanonical-put}
 use Rattle.lin_proof.proofs.Values.{terms_value-put, value-plus}
 use Rattle.lin_proof.proofs.Whole.{distribute, distribute_left, associate, div_below}
-use Rattle.cert_path.specs.Facts.{row_of}
-use Rattle.cert_path.proofs.Values.{one_floor}
+use Rattle.cert_semantics.specs.Facts.{row_of}
+use Rattle.cert_semantics.proofs.Values.{one_floor}
 use Rattle.sym_calc.specs.Division.{changed, quotient_terms, remainder_terms, quotient, remainder}
 
 -- ---- terms in order

@@ -12,12 +12,12 @@ use Rattle.viz_base.specs.declared.worlds.Rect.{Rect}
 use Rattle.lin_proof.specs.Form.{Form}
 use Rattle.lin_proof.specs.declared.derivation.Answer.{Answer}
 use Rattle.lin_proof.specs.Derivations.{are_declared, first_fault}
-use Rattle.cert_path.specs.Axes.{axis_count}
-use Rattle.cert_path.specs.Paths.{def, first, second, lemma, Path as Steps, root, ◌▸◌, form_of, variables}
-use Rattle.cert_path.specs.Facts.{step_facts, facts}
-use Rattle.cert_path.specs.Nodes.{names}
-use Rattle.cert_path.specs.Shapes.{has_variable, has_remainders, same_row, is_named, is_shaped}
-use Rattle.cert_path.specs.Derived.{below_floors, AreFloors, denial, IsRefuted, AreRefuted}
+use Rattle.cert_semantics.specs.Axes.{axis_count}
+use Rattle.cert_semantics.specs.Paths.{def, first, second, lemma, Path as Steps, root, ◌▸◌, form_of, variables}
+use Rattle.cert_semantics.specs.Facts.{step_facts, facts}
+use Rattle.cert_semantics.specs.Nodes.{names}
+use Rattle.cert_semantics.specs.Shapes.{has_variable, has_remainders, same_row, is_named, is_shaped}
+use Rattle.cert_semantics.specs.Derived.{below_floors, AreFloors, denial, IsRefuted, AreRefuted}
 use Rattle.sym_calc.specs.declared.floors.Floor.{Floor}
 use Rattle.sym_calc.specs.Floors.{same_floor, floors_of}
 use Rattle.sym_calc.specs.Knowledge.{contrary}

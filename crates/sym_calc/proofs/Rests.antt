@@ -7,7 +7,7 @@ use Rattle.std.specs.List.{list_all}
 use Rattle.std.proofs.lemmas.Int.{ints}
 use Rattle.std.proofs.lemmas.Bool.Decides.{nat_tests}
 use Rattle.lin_proof.specs.Form.{Form, Terms}
-use Rattle.cert_path.specs.Shapes.{is_remainder, has_remainders, has_variable}
+use Rattle.cert_semantics.specs.Shapes.{is_remainder, has_remainders, has_variable}
 use Rattle.sym_calc.specs.Division.{remainder_terms, remainder}
 
 within : (r m : ℕ) → r < m → is_remainder (pos m) (pos r) ≡ true

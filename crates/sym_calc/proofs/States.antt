@@ -11,9 +11,9 @@ use Rattle.lin_proof.specs.Form.{Form, value}
 use Rattle.lin_proof.specs.Exact.{IsExact}
 use Rattle.lin_proof.specs.declared.row.RowFault.{RowFault}
 use Rattle.lin_proof.specs.Derivations.{are_declared}
-use Rattle.cert_path.specs.Axes.{axis_count}
-use Rattle.cert_path.specs.Paths.{def}
-use Rattle.cert_path.specs.Facts.{step_facts}
+use Rattle.cert_semantics.specs.Axes.{axis_count}
+use Rattle.cert_semantics.specs.Paths.{def}
+use Rattle.cert_semantics.specs.Facts.{step_facts}
 use Rattle.sym_calc.specs.declared.floors.Floor.{Floor}
 use Rattle.sym_calc.specs.declared.paths.Origin.{Origin}
 use Rattle.sym_calc.specs.Same.{decides_same_floor}

@@ -3,8 +3,8 @@ use Rattle.std.specs.Prelude.{◌≡◌, ℕ, ◌+◌, Bool, true, not, ◌&&◌
 use Rattle.viz_calc.specs.State.{State}
 use Rattle.lin_proof.specs.Form.{Form, form_fits}
 use Rattle.lin_proof.specs.declared.derivation.Answer.{Answer}
-use Rattle.cert_path.specs.Axes.{axis_count}
-use Rattle.cert_path.specs.Shapes.{has_variable}
+use Rattle.cert_semantics.specs.Axes.{axis_count}
+use Rattle.cert_semantics.specs.Shapes.{has_variable}
 use Rattle.sym_calc.specs.declared.floors.Floor.{Floor}
 use Rattle.sym_calc.specs.declared.sym.Sym.{Sym}
 use Rattle.sym_calc.specs.declared.told.Told.{Told}

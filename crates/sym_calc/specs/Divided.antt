@@ -3,9 +3,9 @@ use Rattle.std.specs.Prelude.{ℕ, ◌+◌, ℤ, pos, Bool, true, ◌&&◌, ◌|
 use Rattle.std.specs.List.{list_any, position_or_len}
 use Rattle.lin_proof.specs.Form.{Form, form_fits, plus}
 use Rattle.lin_proof.specs.Derivations.{are_declared}
-use Rattle.cert_path.specs.Axes.{axis_count}
-use Rattle.cert_path.specs.Facts.{row_of}
-use Rattle.cert_path.specs.Shapes.{has_variable}
+use Rattle.cert_semantics.specs.Axes.{axis_count}
+use Rattle.cert_semantics.specs.Facts.{row_of}
+use Rattle.cert_semantics.specs.Shapes.{has_variable}
 use Rattle.sym_calc.specs.declared.floors.Floor.{Floor}
 use Rattle.sym_calc.specs.Division.{quotient, remainder}
 use Rattle.sym_calc.specs.Floors.{same_floor, floor_fits}

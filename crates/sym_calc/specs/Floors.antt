@@ -2,11 +2,11 @@
 use Rattle.std.specs.Prelude.{ℕ, ◌+◌, ℤ, pos, negsuc, ◌-ℤ◌, Bool, ◌&&◌, List, [], ◌∷◌, ◌++◌}
 use Rattle.std.specs.Ordering.{int_eq}
 use Rattle.viz_base.specs.declared.worlds.World.{World}
-use Rattle.cert_path.specs.Axes.{axis_count}
-use Rattle.cert_path.specs.Paths.{def, first, second, lemma, Path as Steps, root, ◌▸◌, with_floor, values_at}
+use Rattle.cert_semantics.specs.Axes.{axis_count}
+use Rattle.cert_semantics.specs.Paths.{def, first, second, lemma, Path as Steps, root, ◌▸◌, with_floor, values_at}
 use Rattle.lin_proof.specs.Form.{plus, form_fits}
-use Rattle.cert_path.specs.Facts.{row_of}
-use Rattle.cert_path.specs.Shapes.{same_row}
+use Rattle.cert_semantics.specs.Facts.{row_of}
+use Rattle.cert_semantics.specs.Shapes.{same_row}
 use Rattle.sym_calc.specs.declared.floors.Floor.{Floor}
 
 -- whether two floors are of the same row by the same number

@@ -6,10 +6,10 @@ use Rattle.std.specs.Int.Signed.{lt_z}
 use Rattle.lin_proof.specs.Form.{Form}
 use Rattle.lin_proof.specs.declared.derivation.Answer.{Answer}
 use Rattle.lin_proof.specs.Derivations.{are_declared, first_fault}
-use Rattle.cert_path.specs.Axes.{axis_count}
-use Rattle.cert_path.specs.Paths.{def}
-use Rattle.cert_path.specs.Facts.{step_facts}
-use Rattle.cert_path.specs.Shapes.{has_variable, has_remainders, same_row}
+use Rattle.cert_semantics.specs.Axes.{axis_count}
+use Rattle.cert_semantics.specs.Paths.{def}
+use Rattle.cert_semantics.specs.Facts.{step_facts}
+use Rattle.cert_semantics.specs.Shapes.{has_variable, has_remainders, same_row}
 use Rattle.sym_calc.specs.declared.floors.Floor.{Floor}
 use Rattle.sym_calc.specs.declared.troubles.Trouble.{Trouble}
 use Rattle.sym_calc.specs.declared.troubles.Trouble.TheVariants.{Line, Differs, Short}

@@ -12,10 +12,10 @@ use Rattle.viz_base.specs.declared.worlds.Axis.TheVariants.{Width, Size, Height}
 use Rattle.viz_base.specs.Worlds.{along}
 use Rattle.viz_calc.specs.World.{Reading}
 use Rattle.lin_proof.specs.Form.{Form, value}
-use Rattle.cert_path.specs.Axes.{axis_count, number_on, variable_of}
-use Rattle.cert_path.specs.Paths.{with_floor, values_at}
-use Rattle.cert_path.proofs.Values.{with_old}
-use Rattle.cert_path.proofs.Variables.{by_form, own_axis, two, three}
+use Rattle.cert_semantics.specs.Axes.{axis_count, number_on, variable_of}
+use Rattle.cert_semantics.specs.Paths.{with_floor, values_at}
+use Rattle.cert_semantics.proofs.Values.{with_old}
+use Rattle.cert_semantics.proofs.Variables.{by_form, own_axis, two, three}
 use Rattle.sym_calc.specs.declared.floors.Floor.{Floor}
 use Rattle.sym_calc.specs.declared.paths.Origin.{Origin}
 use Rattle.sym_calc.specs.Floors.{with_floors, values_by}

@@ -10,8 +10,8 @@ use Rattle.viz_base.specs.Worlds.{along}
 use Rattle.viz_calc.specs.World.{Reading}
 use Rattle.viz_calc.specs.State.{State}
 use Rattle.lin_proof.specs.Form.{Form, value, denied}
-use Rattle.cert_path.specs.Axes.{variable_of, axes, axis_count}
-use Rattle.cert_path.specs.Facts.{row_of}
+use Rattle.cert_semantics.specs.Axes.{variable_of, axes, axis_count}
+use Rattle.cert_semantics.specs.Facts.{row_of}
 use Rattle.sym_calc.specs.declared.floors.Floor.{Floor}
 use Rattle.sym_calc.specs.declared.paths.Origin.{Origin}
 use Rattle.sym_calc.specs.Floors.{values_by}

@@ -8,9 +8,9 @@ use Rattle.viz_base.specs.Worlds.{IsInRange}
 use Rattle.lin_proof.specs.Form.{Form}
 use Rattle.lin_proof.specs.declared.derivation.Answer.{Answer}
 use Rattle.lin_proof.specs.Derivations.{first_fault}
-use Rattle.cert_path.specs.Paths.{Path as Steps, ◌▸◌, form_of, variables, IsOn, AreSound}
-use Rattle.cert_path.specs.Facts.{facts}
-use Rattle.cert_path.specs.Derived.{AreEntailed, below_floors, AreFloors, denial, AreRefuted}
+use Rattle.cert_semantics.specs.Paths.{Path as Steps, ◌▸◌, form_of, variables, IsOn, AreSound}
+use Rattle.cert_semantics.specs.Facts.{facts}
+use Rattle.cert_semantics.specs.Derived.{AreEntailed, below_floors, AreFloors, denial, AreRefuted}
 use Rattle.sym_calc.specs.declared.floors.Floor.{Floor}
 use Rattle.sym_calc.specs.declared.paths.Origin.{Origin}
 use Rattle.sym_calc.specs.Floors.{floors_of}

@@ -8,8 +8,8 @@ use Rattle.std.specs.Ordering.{int_eq}
 use Rattle.std.proofs.Common.{ap}
 use Rattle.std.proofs.lemmas.Bool.Decides.{Decides-and, Decides-int_eq}
 use Rattle.lin_proof.specs.Form.{Form, Terms}
-use Rattle.cert_path.specs.Shapes.{same_row}
-use Rattle.cert_path.proofs.FitDefs.{decides_same_row}
+use Rattle.cert_semantics.specs.Shapes.{same_row}
+use Rattle.cert_semantics.proofs.FitDefs.{decides_same_row}
 use Rattle.sym_calc.specs.declared.floors.Floor.{Floor}
 use Rattle.sym_calc.specs.declared.told.Alike.{Alike}
 use Rattle.sym_calc.specs.Floors.{same_floor}

@@ -4,7 +4,7 @@ use Rattle.std.specs.Option.{option_map}
 use Rattle.lin_proof.specs.Form.{Form}
 use Rattle.lin_proof.specs.declared.derivation.Answer.{Answer}
 use Rattle.lin_proof.specs.Derivations.{first_fault}
-use Rattle.cert_path.specs.Shapes.{same_row}
+use Rattle.cert_semantics.specs.Shapes.{same_row}
 use Rattle.sym_calc.specs.declared.troubles.Trouble.{Trouble}
 use Rattle.sym_calc.specs.declared.troubles.Trouble.TheVariants.{Line, Differs, Short}
 use Rattle.sym_calc.specs.Knowledge.{contrary}

@@ -2,8 +2,8 @@ ghost use Rattle.std.specs.Prelude.{◌≡◌, ◌<ℤ◌, ◌-ℤ◌, ◌++◌,
 ghost use Rattle.std.specs.List.{list_any};
 ghost use Rattle.lin_proof.specs.Form.{plus};
 ghost use Rattle.lin_proof.specs.Exact.{IsExact};
-ghost use Rattle.cert_path.specs.Paths.{def};
-ghost use Rattle.cert_path.specs.Facts.{row_of, step_facts};
+ghost use Rattle.cert_semantics.specs.Paths.{def};
+ghost use Rattle.cert_semantics.specs.Facts.{row_of, step_facts};
 ghost use Rattle.lin_proof.specs.declared.row.RowFault.TheVariants.{Coeff};
 ghost use Rattle.sym_calc.specs.Floors.{same_floor, floor_fits};
 

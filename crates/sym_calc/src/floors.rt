@@ -1,7 +1,7 @@
 ghost use Rattle.std.specs.Prelude.{◌≡◌, [], ◌∷◌, ◌++◌, false, is_some, length, position, slice_get, take, OnErr, OnOk};
 ghost use Rattle.std.specs.List.{list_any};
 ghost use Rattle.std.specs.Option.{option_copied};
-ghost use Rattle.cert_path.specs.Shapes.{same_row};
+ghost use Rattle.cert_semantics.specs.Shapes.{same_row};
 
 use indexmap::IndexSet;
 use lin_proof::Row;

@@ -1,16 +1,16 @@
 ghost use Rattle.std.specs.Prelude.{◌≡◌, ◌+◌, ◌<ℤ◌, ◌++◌, [], ◌∷◌, false, length, pos, take, Err, IfOk, OnErr, OnOk};
 ghost use Rattle.std.specs.List.{list_any};
 ghost use Rattle.lin_proof.specs.Form.{denied, form_fits};
-ghost use Rattle.cert_path.specs.Axes.{axis_count};
-ghost use Rattle.cert_path.specs.Paths.{def};
-ghost use Rattle.cert_path.specs.Facts.{range_facts, side_facts, step_facts};
+ghost use Rattle.cert_semantics.specs.Axes.{axis_count};
+ghost use Rattle.cert_semantics.specs.Paths.{def};
+ghost use Rattle.cert_semantics.specs.Facts.{range_facts, side_facts, step_facts};
 ghost use Rattle.lin_proof.specs.declared.row.RowFault.TheVariants.{Coeff};
 ghost use Rattle.sym_calc.specs.Floors.{same_floor, floor_fits};
 ghost use Rattle.sym_calc.specs.Knowledge.{AreKnown};
 
 use crate::facts::{add_both, add_floor};
 use crate::floors::{Floor, Floors};
-use cert_path::variable_of;
+use cert_semantics::variable_of;
 use lin_proof::{Row, RowFault};
 use std::alloc::{AllocError, Global};
 use viz_base::{Axis, List, Rect, Span};

@@ -8,12 +8,12 @@ use Rattle.viz_base.specs.declared.worlds.World.{World}
 use Rattle.viz_base.specs.declared.worlds.Rect.{Rect}
 use Rattle.lin_proof.specs.Form.{Form, form_fits, denied}
 use Rattle.lin_proof.specs.Derivations.{are_declared}
-use Rattle.cert_path.specs.Paths.{Step, def, first, second, lemma, Path, root, ◌▸◌, form_of, variables, with_floor, values_along, IsTaken, IsOn}
-use Rattle.cert_path.specs.Nodes.{Decision, names, splits, states, is_empty, by_worlds, by_answers}
-use Rattle.cert_path.specs.Rectangles.{Sides, rectangle, left_by, world_count}
-use Rattle.cert_path.specs.Shapes.{has_variable, has_remainders, same_row, is_named, is_shaped}
-use Rattle.cert_path.specs.Laws.{IsInside}
-use Rattle.cert_path.specs.Units.{is_unit}
+use Rattle.cert_semantics.specs.Paths.{Step, def, first, second, lemma, Path, root, ◌▸◌, form_of, variables, with_floor, values_along, IsTaken, IsOn}
+use Rattle.cert_semantics.specs.Nodes.{Decision, names, splits, states, is_empty, by_worlds, by_answers}
+use Rattle.cert_semantics.specs.Rectangles.{Sides, rectangle, left_by, world_count}
+use Rattle.cert_semantics.specs.Shapes.{has_variable, has_remainders, same_row, is_named, is_shaped}
+use Rattle.cert_semantics.specs.Laws.{IsInside}
+use Rattle.cert_semantics.specs.Units.{is_unit}
 use Rattle.cert_check.specs.Numbers.{computed, are_computed, IsComputed}
 use Rattle.cert_check.specs.Truths.{IsTrueOn}
 use Rattle.viz_renew.specs.Pieces.{is_firm}

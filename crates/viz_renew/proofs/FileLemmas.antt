@@ -7,9 +7,9 @@ use Rattle.cert_text.specs.declared.certificate.Cert.{Cert}
 use Rattle.cert_text.specs.Nodes.{node_count}
 use Rattle.cert_text.specs.Texts.{CertText}
 use Rattle.cert_text.proofs.NodeCounts.{count_bound}
-use Rattle.cert_path.specs.Axes.{axis_count}
-use Rattle.cert_path.specs.Nodes.{nodes_of}
-use Rattle.cert_path.specs.Paths.{root}
+use Rattle.cert_semantics.specs.Axes.{axis_count}
+use Rattle.cert_semantics.specs.Nodes.{nodes_of}
+use Rattle.cert_semantics.specs.Paths.{root}
 use Rattle.cert_check.proofs.Tellings.{count_is}
 use Rattle.cert_file.specs.Files.{AreTexts, AreReadFor, renamed, with_digest}
 use Rattle.cert_file.proofs.Parsing.{joined}

@@ -5,13 +5,13 @@ use Rattle.std.specs.Option.{option_and_then}
 use Rattle.viz_base.specs.declared.jobs.Job.{Job}
 use Rattle.viz_base.specs.declared.worlds.Rect.{Rect}
 use Rattle.lin_proof.specs.Form.{Form}
-use Rattle.cert_path.specs.Paths.{def, lemma, root, ◌▸◌, variables}
-use Rattle.cert_path.specs.Axes.{axis_count}
-use Rattle.cert_path.specs.Rectangles.{rectangle}
+use Rattle.cert_semantics.specs.Paths.{def, lemma, root, ◌▸◌, variables}
+use Rattle.cert_semantics.specs.Axes.{axis_count}
+use Rattle.cert_semantics.specs.Rectangles.{rectangle}
 use Rattle.viz_base.specs.declared.rectangles.Child.{Child}
 use Rattle.cert_check.specs.declared.descent.Descent.{Descent}
 use Rattle.viz_base.specs.Rectangles.{IsWithin}
-use Rattle.cert_path.specs.Units.{cut_of, cut_at}
+use Rattle.cert_semantics.specs.Units.{cut_of, cut_at}
 use Rattle.cert_check.specs.steps.Descent.{path_of}
 use Rattle.cert_check.specs.steps.Grids.{IsPart}
 use Rattle.cert_check.specs.steps.Ways.{path_at}

@@ -7,11 +7,11 @@ use Rattle.lin_proof.specs.Form.{Form}
 use Rattle.lin_proof.specs.declared.derivation.Derivation.{Derivation}
 use Rattle.lin_proof.specs.declared.derivation.Answer.{Answer}
 use Rattle.lin_proof.proofs.Sound.{entailment_law}
-use Rattle.cert_path.specs.Derived.{IsEntailed}
-use Rattle.cert_path.specs.Facts.{facts}
-use Rattle.cert_path.specs.Paths.{Path, variables}
-use Rattle.cert_path.specs.Nodes.{states, by_worlds, by_answers, Node, node_on}
-use Rattle.cert_path.specs.Shapes.{is_shaped}
+use Rattle.cert_semantics.specs.Derived.{IsEntailed}
+use Rattle.cert_semantics.specs.Facts.{facts}
+use Rattle.cert_semantics.specs.Paths.{Path, variables}
+use Rattle.cert_semantics.specs.Nodes.{states, by_worlds, by_answers, Node, node_on}
+use Rattle.cert_semantics.specs.Shapes.{is_shaped}
 use Rattle.cert_check.specs.declared.verdicts.Reject.{Reject}
 use Rattle.cert_check.specs.declared.verdicts.Reject.TheVariants.{OtherJob, Shape, Line, Untrue, Unmet, Differs, Short, Left, Coeff}
 use Rattle.cert_check.specs.declared.walk.Stop.TheVariants as of_stop

@@ -9,9 +9,9 @@ use Rattle.lin_proof.specs.declared.derivation.Derivation.{Derivation}
 use Rattle.lin_proof.specs.declared.derivation.Answer.{Answer}
 use Rattle.cert_text.specs.declared.certificate.CertNode.{CertNode}
 use Rattle.cert_text.specs.declared.certificate.CertNode.TheVariants.{Def, Split, Lemma, Void, Grid, Leaf}
-use Rattle.cert_path.specs.Paths.{Step, def, first, second, lemma, Path, ◌▸◌}
-use Rattle.cert_path.specs.Nodes.{Node, nodes_from}
-use Rattle.cert_path.proofs.Trees.{preorder}
+use Rattle.cert_semantics.specs.Paths.{Step, def, first, second, lemma, Path, ◌▸◌}
+use Rattle.cert_semantics.specs.Nodes.{Node, nodes_from}
+use Rattle.cert_semantics.proofs.Trees.{preorder}
 use Rattle.cert_check.proofs.Tellings.{def_nodes, split_nodes, lemma_nodes}
 use Rattle.viz_renew.specs.declared.counts.Kept.{Kept}
 use Rattle.viz_renew.specs.Pieces.{is_firm, stands, with_grid, with_leaf, IsKeptGrid, IsKeptLeaf, Keeps}

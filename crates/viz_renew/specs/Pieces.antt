@@ -4,9 +4,9 @@ use Rattle.viz_base.specs.declared.jobs.Job.{Job}
 use Rattle.viz_base.specs.declared.worlds.Rect.{Rect}
 use Rattle.lin_proof.specs.Form.{form_fits, denied}
 use Rattle.cert_text.specs.declared.certificate.Cert.{Cert}
-use Rattle.cert_path.specs.Paths.{Step, def, first, second, lemma, Path, root, ◌▸◌}
-use Rattle.cert_path.specs.Nodes.{Decision, names, splits, states, is_empty, by_worlds, by_answers, Node, nodes_of}
-use Rattle.cert_path.specs.Shapes.{is_shaped}
+use Rattle.cert_semantics.specs.Paths.{Step, def, first, second, lemma, Path, root, ◌▸◌}
+use Rattle.cert_semantics.specs.Nodes.{Decision, names, splits, states, is_empty, by_worlds, by_answers, Node, nodes_of}
+use Rattle.cert_semantics.specs.Shapes.{is_shaped}
 use Rattle.cert_check.specs.Numbers.{IsComputed}
 use Rattle.cert_check.specs.Truths.{IsTrueOn}
 use Rattle.viz_renew.specs.declared.counts.Kept.{Kept}

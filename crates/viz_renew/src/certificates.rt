@@ -1,6 +1,6 @@
 ghost use Rattle.std.specs.Prelude.{◌+◌, ◌<◌, ◌^◌, IfOk};
 ghost use Rattle.cert_text.specs.Nodes.{node_count};
-ghost use Rattle.cert_path.specs.Axes.{axis_count};
+ghost use Rattle.cert_semantics.specs.Axes.{axis_count};
 ghost use Rattle.viz_renew.specs.Pieces.{ArePieces};
 
 use crate::counts::Kept;

@@ -2,11 +2,11 @@
 ghost use Rattle.std.specs.Prelude.{◌≡◌, ◌<◌, ◌^◌, ◌&&◌, ℕ, IfOk, IfSome, IsTrue};
 ghost use Rattle.viz_base.specs.declared.jobs.Job.{Job};
 ghost use Rattle.lin_proof.specs.Form.{denied, form_fits};
-ghost use Rattle.cert_path.specs.Derived.{IsEntailed};
-ghost use Rattle.cert_path.specs.Nodes.{by_answers, by_worlds, Node, node_on, splits};
-ghost use Rattle.cert_path.specs.Paths.{variables};
-ghost use Rattle.cert_path.specs.Rectangles.{rectangle};
-ghost use Rattle.cert_path.specs.Shapes.{is_shaped};
+ghost use Rattle.cert_semantics.specs.Derived.{IsEntailed};
+ghost use Rattle.cert_semantics.specs.Nodes.{by_answers, by_worlds, Node, node_on, splits};
+ghost use Rattle.cert_semantics.specs.Paths.{variables};
+ghost use Rattle.cert_semantics.specs.Rectangles.{rectangle};
+ghost use Rattle.cert_semantics.specs.Shapes.{is_shaped};
 ghost use Rattle.viz_base.specs.Rectangles.{IsWithin};
 ghost use Rattle.cert_check.specs.steps.Grids.{IsPart};
 ghost use Rattle.cert_check.specs.steps.Tells.{Judges};

@@ -1,8 +1,8 @@
 //! The renewal of the certificates of all parts.
 ghost use Rattle.std.specs.Prelude.{◌≡◌, ◌+◌, ◌≤◌, ◌<◌, ◌^◌, ℕ, List, length, IfOk};
 ghost use Rattle.cert_text.specs.Texts.{CertText};
-ghost use Rattle.cert_path.specs.Axes.{axis_count};
-ghost use Rattle.cert_path.specs.Nodes.{nodes_of};
+ghost use Rattle.cert_semantics.specs.Axes.{axis_count};
+ghost use Rattle.cert_semantics.specs.Nodes.{nodes_of};
 ghost use Rattle.cert_file.specs.Files.{AreTexts};
 ghost use Rattle.prove_search.specs.Outcomes.{plain_most};
 ghost use Rattle.viz_renew.specs.steps.Read.{HaveFewNodes};

@@ -2,9 +2,9 @@
 ghost use Rattle.std.specs.Prelude.{◌≡◌, ◌+◌, ◌++◌, ℕ, Bool, true, false, IfOk, OnOk};
 ghost use Rattle.viz_base.specs.declared.jobs.Job.{Job};
 ghost use Rattle.cert_text.specs.Nodes.{node_count};
-ghost use Rattle.cert_path.specs.Derived.{IsEntailed};
-ghost use Rattle.cert_path.specs.Nodes.{by_answers, by_worlds, node_on, nodes_from};
-ghost use Rattle.cert_path.specs.Paths.{Path, def, first, second, lemma};
+ghost use Rattle.cert_semantics.specs.Derived.{IsEntailed};
+ghost use Rattle.cert_semantics.specs.Nodes.{by_answers, by_worlds, node_on, nodes_from};
+ghost use Rattle.cert_semantics.specs.Paths.{Path, def, first, second, lemma};
 ghost use Rattle.cert_check.specs.steps.Ways.{path_at};
 ghost use Rattle.viz_renew.specs.Pieces.{Keeps, is_firm, stands, with_grid, with_leaf};
 ghost use Rattle.viz_renew.specs.steps.Bare.{IsFoundGood};

@@ -5,7 +5,7 @@ use Rattle.viz_base.specs.declared.worlds.World.{World}
 use Rattle.viz_base.specs.declared.worlds.Rect.{Rect}
 use Rattle.viz_base.specs.declared.worlds.Axis.{Axis}
 use Rattle.viz_base.specs.Worlds.{along, side_of}
-use Rattle.cert_path.specs.Axes.{axes}
+use Rattle.cert_semantics.specs.Axes.{axes}
 use Rattle.viz_replies.specs.declared.question.Screen.{Screen}
 use Rattle.viz_replies.specs.Lines.{spaced}
 

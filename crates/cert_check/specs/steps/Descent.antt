@@ -2,9 +2,9 @@
 use Rattle.std.specs.Prelude.{ℕ, Bool, true, false, ◌&&◌, pos, List, [], ◌∷◌}
 use Rattle.std.specs.Int.Signed.{lt_z}
 use Rattle.viz_base.specs.declared.jobs.Job.{Job}
-use Rattle.cert_path.specs.Derived.{AreEntailed}
-use Rattle.cert_path.specs.Once.{entailed_once}
-use Rattle.cert_path.specs.Paths.{Step, def, first, second, lemma, Path, root, ◌▸◌, is_declared}
+use Rattle.cert_semantics.specs.Derived.{AreEntailed}
+use Rattle.cert_semantics.specs.Once.{entailed_once}
+use Rattle.cert_semantics.specs.Paths.{Step, def, first, second, lemma, Path, root, ◌▸◌, is_declared}
 use Rattle.cert_check.specs.declared.descent.Above.{Above}
 use Rattle.cert_check.specs.declared.descent.Above.TheVariants.{Def, First, Second, Lemma}
 

@@ -10,9 +10,9 @@ use Rattle.viz_base.specs.declared.worlds.Axis.{Axis}
 use Rattle.viz_base.specs.declared.worlds.Rect.{Rect}
 use Rattle.viz_base.specs.declared.jobs.Job.{Job}
 use Rattle.viz_base.specs.Worlds.{along}
-use Rattle.cert_path.specs.Axes.{axes}
-use Rattle.cert_path.specs.Rectangles.{Sides, whole}
-use Rattle.cert_path.specs.Units.{is_unit}
+use Rattle.cert_semantics.specs.Axes.{axes}
+use Rattle.cert_semantics.specs.Rectangles.{Sides, whole}
+use Rattle.cert_semantics.specs.Units.{is_unit}
 use Rattle.viz_base.specs.Rectangles.{IsProper}
 use Rattle.cert_check.specs.steps.Worlds.{is_untrue}
 use Rattle.cert_check.specs.declared.descent.Above.{Above}

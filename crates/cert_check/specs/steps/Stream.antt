@@ -10,10 +10,10 @@ use Rattle.cert_text.specs.Texts.{CertText}
 use Rattle.cert_text.specs.declared.certificate.CertFault.{CertFault}
 use Rattle.cert_text.specs.declared.certificate.CertFault.TheVariants.{Mem, Grammar}
 use Rattle.cert_text.specs.Pieces.{Reading, HasGiven, IsWhole, HasNoText, IsNext, cert_pieces, bytes_of}
-use Rattle.cert_path.specs.Axes.{axis_count}
-use Rattle.cert_path.specs.Paths.{def, first, second, lemma, Path, root, ◌▸◌, is_declared, variables}
-use Rattle.cert_path.specs.Nodes.{names, splits, states, is_empty, by_worlds, by_answers, Node, node_on}
-use Rattle.cert_path.specs.Rectangles.{rectangle}
+use Rattle.cert_semantics.specs.Axes.{axis_count}
+use Rattle.cert_semantics.specs.Paths.{def, first, second, lemma, Path, root, ◌▸◌, is_declared, variables}
+use Rattle.cert_semantics.specs.Nodes.{names, splits, states, is_empty, by_worlds, by_answers, Node, node_on}
+use Rattle.cert_semantics.specs.Rectangles.{rectangle}
 use Rattle.cert_check.specs.declared.verdicts.Verdict.{Verdict}
 use Rattle.cert_check.specs.declared.verdicts.Verdict.TheVariants.{Accepted, Rejected}
 use Rattle.cert_check.specs.declared.verdicts.Reject.{Reject}

@@ -2,7 +2,7 @@
 use Rattle.std.specs.Prelude.{◌≡◌, ◌⊎◌, ℕ, ◌+◌, List, [], ◌∷◌, Result, Ok, Err, ⊤}
 use Rattle.std.specs.List.{AllByRecursion}
 use Rattle.viz_base.specs.declared.jobs.Job.{Job}
-use Rattle.cert_path.specs.Nodes.{Node}
+use Rattle.cert_semantics.specs.Nodes.{Node}
 use Rattle.cert_check.specs.declared.verdicts.Reject.{Reject}
 use Rattle.cert_check.specs.declared.walk.Stop.{Stop}
 use Rattle.cert_check.specs.declared.walk.Stop.TheVariants.{Mem, Rejected}

@@ -1,5 +1,5 @@
 -- Where a descent is.
-use Rattle.cert_path.specs.Paths.{Path}
+use Rattle.cert_semantics.specs.Paths.{Path}
 use Rattle.cert_check.specs.declared.descent.Descent.{Descent}
 use Rattle.cert_check.specs.steps.Descent.{path_of}
 

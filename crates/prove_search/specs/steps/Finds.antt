@@ -7,10 +7,10 @@ use Rattle.viz_base.specs.Worlds.{side_of, span_count, world_count}
 use Rattle.viz_base.specs.declared.jobs.Job.{Job}
 use Rattle.cert_text.specs.declared.certificate.CertNode.TheVariants.{Grid}
 use Rattle.cert_text.specs.Texts.{node_text, node_has_text}
-use Rattle.cert_path.specs.Paths.{Path, form_of}
-use Rattle.cert_path.specs.Rectangles.{whole, rectangle}
-use Rattle.cert_path.specs.Nodes.{nodes_from}
-use Rattle.cert_path.specs.Units.{AreUnits}
+use Rattle.cert_semantics.specs.Paths.{Path, form_of}
+use Rattle.cert_semantics.specs.Rectangles.{whole, rectangle}
+use Rattle.cert_semantics.specs.Nodes.{nodes_from}
+use Rattle.cert_semantics.specs.Units.{AreUnits}
 use Rattle.cert_check.specs.Truths.{IsTrueIn}
 use Rattle.cert_check.specs.Right.{IsGood}
 use Rattle.prove_search.specs.declared.plain.Closed.{Closed}

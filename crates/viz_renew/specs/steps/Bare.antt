@@ -1,8 +1,8 @@
 -- The walk goes down without the lemmas that aren't derived: these say nothing of worlds.
 use Rattle.std.specs.Prelude.{Bool, true, false}
 use Rattle.viz_base.specs.declared.jobs.Job.{Job}
-use Rattle.cert_path.specs.Paths.{def, first, second, lemma, Path, root, ◌▸◌}
-use Rattle.cert_path.specs.Nodes.{Node}
+use Rattle.cert_semantics.specs.Paths.{def, first, second, lemma, Path, root, ◌▸◌}
+use Rattle.cert_semantics.specs.Nodes.{Node}
 use Rattle.cert_check.specs.declared.verdicts.Reject.{Reject}
 use Rattle.cert_check.specs.Right.{IsGood}
 use Rattle.cert_check.specs.Verdicts.{IsRejected}

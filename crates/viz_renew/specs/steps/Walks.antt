@@ -3,9 +3,9 @@ use Rattle.std.specs.Prelude.{◌≡◌, ℕ, ◌+◌, ◌<◌, ◌^◌, true, �
 use Rattle.viz_base.specs.declared.jobs.Job.{Job}
 use Rattle.cert_text.specs.declared.certificate.CertNode.{CertNode}
 use Rattle.lin_proof.specs.Form.{Form}
-use Rattle.cert_path.specs.Nodes.{nodes_from}
-use Rattle.cert_path.specs.Paths.{Step, first, second, Path, ◌▸◌, variables}
-use Rattle.cert_path.specs.Rectangles.{rectangle}
+use Rattle.cert_semantics.specs.Nodes.{nodes_from}
+use Rattle.cert_semantics.specs.Paths.{Step, first, second, Path, ◌▸◌, variables}
+use Rattle.cert_semantics.specs.Rectangles.{rectangle}
 use Rattle.viz_base.specs.Rectangles.{IsWithin}
 use Rattle.cert_check.specs.declared.descent.Descent.{Descent}
 use Rattle.cert_check.specs.steps.Grids.{IsPart}

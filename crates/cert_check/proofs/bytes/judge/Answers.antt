@@ -2,7 +2,7 @@ use Rattle.std.proofs.Common.{◌≡◌, Option, Ok, Err, sym, ap, subst, arith}
 use Rattle.viz_base.specs.declared.jobs.Job.{Job}
 use Rattle.cert_text.specs.declared.certificate.Piece.{Piece}
 use Rattle.cert_text.specs.Pieces.{IsNext}
-use Rattle.cert_path.specs.Axes.{axis_count}
+use Rattle.cert_semantics.specs.Axes.{axis_count}
 use Rattle.cert_check.specs.declared.walk.Stop.{Stop}
 use Rattle.cert_check.specs.steps.Stream.{IsHead, IsRejectedFrom, nodes_here}
 use Rattle.cert_check.specs.steps.Tells.{Tells}

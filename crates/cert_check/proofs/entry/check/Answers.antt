@@ -1,9 +1,9 @@
 use Rattle.std.proofs.Common.{Ok, Err, refl, sym, ap, subst, arith}
 use Rattle.viz_base.specs.declared.jobs.Job.{Job}
-use Rattle.cert_path.specs.Axes.{axis_count}
-use Rattle.cert_path.specs.Nodes.{nodes_from}
+use Rattle.cert_semantics.specs.Axes.{axis_count}
+use Rattle.cert_semantics.specs.Nodes.{nodes_from}
 use Rattle.cert_check.specs.declared.walk.Stop.{Stop}
-use Rattle.cert_path.specs.Paths.{root}
+use Rattle.cert_semantics.specs.Paths.{root}
 use Rattle.cert_check.specs.steps.Descent.{path_of}
 use Rattle.cert_check.specs.steps.Ways.{path_at}
 use Rattle.cert_check.specs.steps.Tells.{Tells}

@@ -4,8 +4,8 @@ use Rattle.std.specs.Int.{w128}
 use Rattle.std.specs.Int.Signed.{lt_z}
 use Rattle.std.specs.List.{list_any}
 use Rattle.lin_proof.specs.Derivations.{are_declared}
-use Rattle.cert_path.specs.Paths.{variables}
-use Rattle.cert_path.specs.Shapes.{has_variable, has_remainders}
+use Rattle.cert_semantics.specs.Paths.{variables}
+use Rattle.cert_semantics.specs.Shapes.{has_variable, has_remainders}
 use Rattle.sym_calc.specs.Floors.{same_floor}
 use Rattle.sym_calc.proofs.Refuted.{named_is}
 use Rattle.cert_check.specs.steps.Ways.{path_at}

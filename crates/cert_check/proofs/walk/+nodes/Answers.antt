@@ -7,16 +7,16 @@ use Rattle.viz_base.specs.declared.jobs.Job.{Job}
 use Rattle.lin_proof.proofs.Sound.{entailment_law}
 use Rattle.cert_text.specs.declared.certificate.CertNode.TheVariants.{Def, Split, Lemma}
 use Rattle.cert_text.specs.Nodes.{node_count}
-use Rattle.cert_path.specs.Axes.{axis_count}
-use Rattle.cert_path.specs.Paths.{def, first, second, lemma, ◌▸◌, form_of, variables, is_declared}
-use Rattle.cert_path.specs.Facts.{facts}
-use Rattle.cert_path.specs.Rectangles.{rectangle}
-use Rattle.cert_path.specs.Nodes.{names, splits, states, node_on, nodes_from}
-use Rattle.cert_path.specs.Shapes.{has_variable}
+use Rattle.cert_semantics.specs.Axes.{axis_count}
+use Rattle.cert_semantics.specs.Paths.{def, first, second, lemma, ◌▸◌, form_of, variables, is_declared}
+use Rattle.cert_semantics.specs.Facts.{facts}
+use Rattle.cert_semantics.specs.Rectangles.{rectangle}
+use Rattle.cert_semantics.specs.Nodes.{names, splits, states, node_on, nodes_from}
+use Rattle.cert_semantics.specs.Shapes.{has_variable}
 use Rattle.viz_base.specs.declared.rectangles.Child.TheVariants.{First, Second}
 use Rattle.cert_check.specs.declared.descent.Above.{Above}
 use Rattle.viz_base.specs.Rectangles.{IsWithin}
-use Rattle.cert_path.specs.Units.{cut_of, cut_at}
+use Rattle.cert_semantics.specs.Units.{cut_of, cut_at}
 use Rattle.cert_check.specs.steps.Grids.{IsPart}
 use Rattle.cert_check.specs.steps.Descent.{path_of}
 use Rattle.cert_check.specs.steps.Ways.{path_at}

@@ -1,7 +1,7 @@
 use Rattle.std.proofs.Common.{◌∙◌, refl, sym, ap, subst}
 use Rattle.viz_base.specs.declared.jobs.Job.{Job}
 use Rattle.viz_calc.specs.State.{State}
-use Rattle.cert_path.specs.Nodes.{by_answers, node_on}
+use Rattle.cert_semantics.specs.Nodes.{by_answers, node_on}
 use Rattle.sym_calc.specs.declared.paths.Path.{Path}
 use Rattle.viz_base.specs.Jobs.{IsFormed}
 use Rattle.sym_calc.specs.declared.paths.Origin.{Origin}

@@ -1,6 +1,6 @@
 use Rattle.std.proofs.Common.{◌∙◌, sym, FitsSigned, to_z-of_z}
 use Rattle.std.specs.Int.{w128}
-use Rattle.cert_path.specs.Nodes.{names, node_on}
+use Rattle.cert_semantics.specs.Nodes.{names, node_on}
 use Rattle.cert_check.specs.steps.Ways.{path_at}
 use Rattle.cert_check.proofs.Judging.{judged}
 use Rattle.cert_check.proofs.walk.check_def.Goals as goal

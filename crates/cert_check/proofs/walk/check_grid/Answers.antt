@@ -1,7 +1,7 @@
 use Rattle.std.proofs.Common.{◌≡◌, ◌<◌, ◌≤◌, ◌∙◌, true, false, Option, None, Some, refl, sym, ap, subst, arith}
 use Rattle.std.specs.Prelude.{is_some}
-use Rattle.cert_path.specs.Nodes.{by_worlds, node_on}
-use Rattle.cert_path.specs.Rectangles.{rectangle}
+use Rattle.cert_semantics.specs.Nodes.{by_worlds, node_on}
+use Rattle.cert_semantics.specs.Rectangles.{rectangle}
 use Rattle.cert_check.specs.steps.Ways.{path_at}
 use Rattle.viz_base.specs.declared.worlds.World.{World}
 use Rattle.viz_base.specs.Worlds.{world_count as count_of}

@@ -1,7 +1,7 @@
 use Rattle.std.proofs.Common.{sym, ◌∙◌}
 use Rattle.lin_proof.specs.Derivations.{first_fault}
 use Rattle.lin_proof.specs.Entailments.{with_denied}
-use Rattle.cert_path.specs.Nodes.{states, node_on}
+use Rattle.cert_semantics.specs.Nodes.{states, node_on}
 use Rattle.cert_check.specs.steps.Ways.{path_at}
 use Rattle.cert_check.proofs.Judging.{judged, lemma_good}
 use Rattle.cert_check.proofs.walk.check_lemma.Goals as goal

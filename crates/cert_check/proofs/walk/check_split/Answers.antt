@@ -1,5 +1,5 @@
 use Rattle.std.proofs.Common.{◌∙◌, sym}
-use Rattle.cert_path.specs.Nodes.{splits, node_on}
+use Rattle.cert_semantics.specs.Nodes.{splits, node_on}
 use Rattle.cert_check.specs.steps.Ways.{path_at}
 use Rattle.cert_check.proofs.Judging.{judged}
 use Rattle.cert_check.proofs.walk.check_split.Goals as goal

@@ -1,6 +1,6 @@
 use Rattle.std.proofs.Common.{◌∙◌, ◌++◌, []}
 use Rattle.lin_proof.specs.Derivations.{first_fault}
-use Rattle.cert_path.specs.Nodes.{is_empty, node_on}
+use Rattle.cert_semantics.specs.Nodes.{is_empty, node_on}
 use Rattle.cert_check.specs.steps.Ways.{path_at}
 use Rattle.cert_check.proofs.Judging.{judged, void_good, void_bad}
 use Rattle.cert_check.proofs.walk.check_void.Goals as goal

@@ -2,8 +2,8 @@ use Rattle.std.proofs.Common.{◌≡◌, refl, sym, ap, subst}
 use Rattle.std.proofs.lemmas.Result.{IfOk-weaker}
 use Rattle.viz_base.specs.declared.jobs.Job.{Job}
 use Rattle.cert_text.specs.Nodes.{node_count}
-use Rattle.cert_path.specs.Nodes.{nodes_from}
-use Rattle.cert_path.specs.Paths.{root}
+use Rattle.cert_semantics.specs.Nodes.{nodes_from}
+use Rattle.cert_semantics.specs.Paths.{root}
 use Rattle.cert_check.specs.steps.Descent.{path_of}
 use Rattle.cert_check.specs.steps.Ways.{path_at}
 use Rattle.viz_renew.specs.Pieces.{Keeps, nothing}

@@ -1,5 +1,5 @@
 use Rattle.std.proofs.lemmas.Result.{IfOk-weaker}
-use Rattle.cert_path.specs.Nodes.{states, node_on}
+use Rattle.cert_semantics.specs.Nodes.{states, node_on}
 use Rattle.cert_check.specs.steps.Ways.{path_at}
 use Rattle.viz_renew.proofs.Marks.{derived_found}
 use Rattle.viz_renew.proofs.judges.is_derived.Goals as goal

@@ -1,5 +1,5 @@
 use Rattle.std.proofs.lemmas.Result.{IfOk-weaker}
-use Rattle.cert_path.specs.Nodes.{by_worlds, node_on}
+use Rattle.cert_semantics.specs.Nodes.{by_worlds, node_on}
 use Rattle.cert_check.specs.steps.Ways.{path_at}
 use Rattle.viz_renew.proofs.judges.is_good_grid.Goals as goal
 

@@ -6,9 +6,9 @@ use Rattle.viz_base.specs.declared.jobs.Job.{Job}
 use Rattle.lin_proof.specs.Form.{denied, form_fits}
 use Rattle.cert_text.specs.declared.certificate.CertNode.TheVariants.{Def, Split, Lemma, Leaf}
 use Rattle.cert_text.specs.Nodes.{node_count}
-use Rattle.cert_path.specs.Nodes.{splits}
-use Rattle.cert_path.specs.Paths.{def, first, second, lemma, is_declared}
-use Rattle.cert_path.specs.Shapes.{has_variable, is_shaped}
+use Rattle.cert_semantics.specs.Nodes.{splits}
+use Rattle.cert_semantics.specs.Paths.{def, first, second, lemma, is_declared}
+use Rattle.cert_semantics.specs.Shapes.{has_variable, is_shaped}
 use Rattle.viz_base.specs.declared.rectangles.Child.TheVariants.{First, Second}
 use Rattle.cert_check.specs.steps.Ways.{path_at}
 use Rattle.cert_check.proofs.Tellings.{count-Def, count-Split, count-Lemma}

@@ -1,7 +1,7 @@
 use Rattle.std.proofs.Common.{◌∙◌, false, refl, sym}
 use Rattle.std.proofs.lemmas.Result.{IfOk-weaker}
 use Rattle.cert_text.specs.declared.certificate.CertNode.TheVariants.{Def, Split, Lemma}
-use Rattle.cert_path.specs.Paths.{def, first, second, lemma, ◌▸◌}
+use Rattle.cert_semantics.specs.Paths.{def, first, second, lemma, ◌▸◌}
 use Rattle.viz_renew.proofs.Walking.{below_fallen, keeps_both, def_keeps, lemma_keeps, split_keeps, void_keeps, grid_keeps, leaf_keeps, none_grid, none_leaf}
 use Rattle.viz_renew.proofs.walk.+pass_node.Goals as goal
 

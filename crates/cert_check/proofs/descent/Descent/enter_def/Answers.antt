@@ -2,11 +2,11 @@ use Rattle.std.proofs.Common.{◌≡◌, ◌∙◌, ◌∷◌, ◌++◌, [], tru
 use Rattle.std.specs.Int.{w128}
 use Rattle.std.specs.List.{list_any}
 use Rattle.std.proofs.lemmas.Bool.{false≢true}
-use Rattle.cert_path.specs.Axes.{axis_count}
-use Rattle.cert_path.specs.Paths.{def, variables}
+use Rattle.cert_semantics.specs.Axes.{axis_count}
+use Rattle.cert_semantics.specs.Paths.{def, variables}
 use Rattle.sym_calc.specs.declared.paths.Origin.{Origin}
-use Rattle.cert_path.specs.Facts.{step_facts, facts}
-use Rattle.cert_path.specs.Derived.{AreEntailed}
+use Rattle.cert_semantics.specs.Facts.{step_facts, facts}
+use Rattle.cert_semantics.specs.Derived.{AreEntailed}
 use Rattle.sym_calc.specs.Laws.{origin_of}
 use Rattle.sym_calc.specs.Floors.{same_floor, floors_of, floor_fits}
 use Rattle.sym_calc.proofs.Along.{variables_of}

@@ -1,7 +1,7 @@
 use Rattle.std.proofs.Common.{◌≡◌, ◌∙◌, ◌∷◌, ◌++◌, [], true, ◌&&◌, rules, sym, ap, subst}
 use Rattle.lin_proof.specs.Form.{denied}
-use Rattle.cert_path.specs.Facts.{facts}
-use Rattle.cert_path.specs.Derived.{AreEntailed}
+use Rattle.cert_semantics.specs.Facts.{facts}
+use Rattle.cert_semantics.specs.Derived.{AreEntailed}
 use Rattle.sym_calc.specs.Laws.{origin_of}
 use Rattle.sym_calc.specs.Floors.{floors_of}
 use Rattle.cert_check.specs.declared.descent.Above.TheVariants.{Second}

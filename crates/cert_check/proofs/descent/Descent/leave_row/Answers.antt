@@ -1,7 +1,7 @@
 use Rattle.std.proofs.Common.{◌≡◌, ◌∙◌, ◌-◌, true, length, take, sym, ap, subst, arith}
-use Rattle.cert_path.specs.Facts.{facts}
-use Rattle.cert_path.specs.Paths.{form_of}
-use Rattle.cert_path.specs.Derived.{AreEntailed}
+use Rattle.cert_semantics.specs.Facts.{facts}
+use Rattle.cert_semantics.specs.Paths.{form_of}
+use Rattle.cert_semantics.specs.Derived.{AreEntailed}
 use Rattle.sym_calc.specs.Floors.{floors_of}
 use Rattle.cert_check.specs.steps.Ways.{path_at}
 use Rattle.cert_check.specs.steps.Descent.{path_of, are_sound, outer_of}

@@ -1,7 +1,7 @@
 use Rattle.std.proofs.Common.{length, ap, arith}
 use Rattle.sym_calc.proofs.Along.{variables_of}
 use Rattle.cert_check.specs.steps.Ways.{path_at}
-use Rattle.cert_path.specs.Axes.{axis_count}
+use Rattle.cert_semantics.specs.Axes.{axis_count}
 use Rattle.cert_check.proofs.Descents.{form_is}
 use Rattle.cert_check.proofs.descent.Descent.variables.Goals as goal
 

@@ -1,11 +1,11 @@
 use Rattle.std.proofs.Common.{◌≡◌, ◌∙◌, ◌++◌, reverse, Option, sym, ap}
 use Rattle.std.specs.Option.{option_and_then, option_to_list}
 use Rattle.viz_base.specs.declared.jobs.Job.{Job}
-use Rattle.cert_path.specs.Paths.{second, ◌▸◌, form_of}
+use Rattle.cert_semantics.specs.Paths.{second, ◌▸◌, form_of}
 use Rattle.viz_base.specs.declared.rectangles.Child.TheVariants.{Second}
 use Rattle.cert_check.specs.declared.visits.Pending.{Pending}
 use Rattle.cert_check.specs.declared.visits.Visits.{Visits}
-use Rattle.cert_path.specs.Units.{cut_of, cut_at}
+use Rattle.cert_semantics.specs.Units.{cut_of, cut_at}
 use Rattle.cert_check.specs.steps.Descent.{outer_of}
 use Rattle.cert_check.specs.steps.Ways.{path_at}
 use Rattle.cert_check.proofs.Descents.{form_is}

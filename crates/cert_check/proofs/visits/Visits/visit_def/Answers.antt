@@ -1,7 +1,7 @@
 use Rattle.std.proofs.Common.{◌+◌, ◌∙◌, [], ◌∷◌, Err, ap, FitsSigned, to_z, of_z, to_z-of_z}
 use Rattle.std.specs.Int.{w128}
 use Rattle.std.proofs.lemmas.Result.{err_from_is_err_and}
-use Rattle.cert_path.specs.Nodes.{names, node_on}
+use Rattle.cert_semantics.specs.Nodes.{names, node_on}
 use Rattle.cert_check.specs.steps.Ways.{path_at}
 use Rattle.cert_check.proofs.Judging.{is_judged}
 use Rattle.cert_check.proofs.Tellings.{tells_one}

@@ -2,10 +2,10 @@ use Rattle.std.proofs.Common.{◌+◌, ◌∙◌, [], ◌∷◌, Err, ap}
 use Rattle.std.proofs.lemmas.Bool.{and_parts}
 use Rattle.std.proofs.lemmas.Result.{err_from_is_err_and}
 use Rattle.lin_proof.proofs.Sound.{entailment_law}
-use Rattle.cert_path.specs.Paths.{variables, is_declared}
-use Rattle.cert_path.specs.Facts.{facts}
-use Rattle.cert_path.specs.Shapes.{has_variable}
-use Rattle.cert_path.specs.Nodes.{states, node_on}
+use Rattle.cert_semantics.specs.Paths.{variables, is_declared}
+use Rattle.cert_semantics.specs.Facts.{facts}
+use Rattle.cert_semantics.specs.Shapes.{has_variable}
+use Rattle.cert_semantics.specs.Nodes.{states, node_on}
 use Rattle.cert_check.specs.steps.Ways.{path_at}
 use Rattle.cert_check.proofs.Judging.{is_judged}
 use Rattle.cert_check.proofs.Tellings.{tells_one}

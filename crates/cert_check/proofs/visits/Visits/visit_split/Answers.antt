@@ -3,13 +3,13 @@ use Rattle.std.specs.Option.{option_and_then}
 use Rattle.std.proofs.lemmas.Bool.{and_parts}
 use Rattle.std.proofs.lemmas.Result.{err_from_is_err_and}
 use Rattle.viz_base.specs.declared.jobs.Job.{Job}
-use Rattle.cert_path.specs.Paths.{form_of, is_declared}
-use Rattle.cert_path.specs.Shapes.{has_variable}
-use Rattle.cert_path.specs.Nodes.{splits, node_on}
+use Rattle.cert_semantics.specs.Paths.{form_of, is_declared}
+use Rattle.cert_semantics.specs.Shapes.{has_variable}
+use Rattle.cert_semantics.specs.Nodes.{splits, node_on}
 use Rattle.viz_base.specs.declared.rectangles.Child.TheVariants.{First}
 use Rattle.cert_check.specs.declared.visits.Pending.{Pending}
 use Rattle.cert_check.specs.declared.visits.Visits.{Visits}
-use Rattle.cert_path.specs.Units.{cut_of, cut_at}
+use Rattle.cert_semantics.specs.Units.{cut_of, cut_at}
 use Rattle.cert_check.specs.steps.Ways.{path_at}
 use Rattle.cert_check.proofs.Descents.{form_is}
 use Rattle.cert_check.proofs.Judging.{is_judged}

@@ -1,7 +1,7 @@
 use Rattle.std.proofs.Common.{◌≡◌, ◌+◌, true, false, Some, sym, ap, ◌∙◌, subst, rules}
 use Rattle.std.specs.Prelude.{slice_get}
 use Rattle.viz_calc.specs.State.{State, Grows}
-use Rattle.cert_path.specs.Shapes.{same_row}
+use Rattle.cert_semantics.specs.Shapes.{same_row}
 use Rattle.sym_calc.specs.declared.troubles.Trouble.TheVariants.{Line, Differs}
 use Rattle.sym_calc.specs.Troubles.{first_of}
 use Rattle.sym_calc.specs.History.{is_accounted}

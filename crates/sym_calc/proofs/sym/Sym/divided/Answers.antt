@@ -2,8 +2,8 @@ use Rattle.std.proofs.Common.{◌≡◌, ◌≢◌, pos, [], ap, sym, ◌∙◌,
 use Rattle.std.specs.Int.{w128}
 use Rattle.std.proofs.lemmas.Result.{IfOk-weaker, err_from_is_err_and}
 use Rattle.lin_proof.specs.Form.{Form, value, plus}
-use Rattle.cert_path.specs.Facts.{row_of}
-use Rattle.cert_path.specs.Shapes.{has_remainders}
+use Rattle.cert_semantics.specs.Facts.{row_of}
+use Rattle.cert_semantics.specs.Shapes.{has_remainders}
 use Rattle.sym_calc.specs.Calc.{named_of}
 use Rattle.sym_calc.proofs.States.{grows_then, counted_is}
 use Rattle.sym_calc.proofs.Fitting.{given_alone, floor_halted, given_with}

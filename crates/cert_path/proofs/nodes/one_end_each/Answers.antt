@@ -1,5 +1,0 @@
-use Rattle.cert_path.proofs.Ends.{one_end}
-use Rattle.cert_path.proofs.nodes.one_end_each.Goals as goal
-
-pub returns : goal.returns
-returns c = one_end

@@ -1,5 +1,0 @@
-use Rattle.cert_path.proofs.FitDefs.{shaped_defs_are_fit}
-use Rattle.cert_path.proofs.shapes.well_shaped_defs.Goals as goal
-
-pub returns : goal.returns
-returns c = shaped_defs_are_fit
