@@ -2,7 +2,7 @@
 """Measures `css_cascade::cascade`: processor time, by the number of rules and of nodes.
 
 A sheet repeats one rule over a page of an element with children of one class, and either each rule applies to each of them or none
-does; each is a case of the program `cases`, so the time includes that of reading and writing a line. A node looks at the rules that
+does; each is a case of the program `test_cases`, so the time includes that of reading and writing a line. A node looks at the rules that
 may match it, so the time may grow with their product: from 250 rules on 250 nodes to 1,000 on 1,000 by at most 16 within noise (a
 ratio of times below 32). Run it at the top: bench/cascade.py
 """

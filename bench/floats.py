@@ -2,7 +2,7 @@
 """Measures `lay_float`: processor time, by the number of floats of one block formatting context.
 
 The floats are placed one after the other: in rows of four, in one column, of changing sizes on both sides, and as stairs, each less
-high than the one before, with one as wide as all of them below. Each is a case of the program `layout_cases`, so the time includes that
+high than the one before, with one as wide as all of them below. Each is a case of the program `test_layout`, so the time includes that
 of reading and writing a line. Then a page of as many floats as it may have, in rows of ten, is laid out by `vizlog lay`.
 A float looks at the last one's top and at the floats from the first one on that had not ended there, a bounded number of times at each
 top that it tries, of which there are few. So in rows the time is to grow with the count, within noise by less than 2.6 from a count to the
@@ -16,7 +16,7 @@ import tempfile
 
 from programs import TOP, measure
 
-PROGRAM = TOP / "crates/layout_cases/out/layout_cases"
+PROGRAM = TOP / "crates/test_layout/out/test_layout"
 VIZLOG = TOP / "crates/vizlog/out/vizlog"
 SIZES = (250, 500, 1000)
 PAGES = (512, 1024, 2048, 4094)

@@ -6,14 +6,14 @@ import sys
 import tempfile
 
 TOP = pathlib.Path(__file__).resolve().parent.parent
-CASES = TOP / "crates/cases/out/cases"
+CASES = TOP / "crates/test_cases/out/test_cases"
 BUILT = str(TOP / "crates/vizlog/out/vizlog")
 
 
 def answers():
     """The words that run the program of cases, which `.ci/run` builds."""
     if not CASES.exists():
-        sys.exit(f"{CASES.relative_to(TOP)} is not there: run .ci/run, or 'rt run' in crates/cases")
+        sys.exit(f"{CASES.relative_to(TOP)} is not there: run .ci/run, or 'rt run' in crates/test_cases")
     return [str(CASES)]
 
 

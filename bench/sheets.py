@@ -1,7 +1,7 @@
 #!/usr/bin/env python3
 """Measures `css_syntax::read_sheet` on texts of 128 KiB to 1 MiB: processor time, and its growth.
 
-An ordinary sheet, and the texts that are worst for a reader of tokens and brackets; each is a case of the program `cases`, so the time
+An ordinary sheet, and the texts that are worst for a reader of tokens and brackets; each is a case of the program `test_cases`, so the time
 includes that of reading a line of JSON. The growth from 128 KiB to 1 MiB is to be linear within noise (a ratio of times below 16, where
 the longer takes at least 20 ms). Run it at the top: bench/sheets.py
 """

@@ -1,5 +1,5 @@
 #!/usr/bin/env python3
-"""Writes the tables of outside cases that the crates `cases`, `layout_cases` and `job_cases` run, from a folder of cases.
+"""Writes the tables of outside cases that the crates `test_cases`, `test_layout` and `test_jobs` run, from a folder of cases.
 
     tools/cases.py FOLDER
 
@@ -14,7 +14,7 @@ and media.jsonl and pseudo.jsonl, of media lists and width queries and of genera
 later.jsonl have what has become of lines of these files. Long cases come behind these, the cases of layout that tools/layout_cases.py
 reads, those of tools/limit_cases.py and the documents of tools/worked_pages.py. What is called goes to a crate's stdin and what it must
 give to its stdout, a line of JSON each: what is replied to whole jobs (lay, check, prove, finding, gen and trial) and whole runs (run,
-survey and ending) to crates/job_cases, what is of layout, rows and derivations to crates/layout_cases, all else to crates/cases. A page
+survey and ending) to crates/test_jobs, what is of layout, rows and derivations to crates/test_layout, all else to crates/test_cases. A page
 goes as a job that has it; a formula as steps, each part before what it is a part of.
 """
 import hashlib
@@ -230,7 +230,7 @@ def selectors(case):
 
 
 def matches(case):
-    return [job_of(case["page"]), [selector for selector, _ in case["cases"]]], [nodes for _, nodes in case["cases"]]
+    return [job_of(case["page"]), [selector for selector, _ in case["test_cases"]]], [nodes for _, nodes in case["test_cases"]]
 
 
 def decimals(case):
@@ -514,10 +514,10 @@ def long_cases():
 
 
 CALLS = [decimals, tokens, sheets, declarations, selectors, matches, values, cascade, formulas, truths]
-# the tables but that of `cases`: what is replied to a whole job, and what is of layout, rows and derivations
+# the tables but that of `test_cases`: what is replied to a whole job, and what is of layout, rows and derivations
 TABLES = {
-    "job_cases": ("lay", "check", "prove", "finding", "gen", "trial", "run", "survey", "ending"),
-    "layout_cases": (
+    "test_jobs": ("lay", "check", "prove", "finding", "gen", "trial", "run", "survey", "ending"),
+    "test_layout": (
         "boxes", "used", "fonts", "words", "widths", "preferred", "lines", "lead", "float_at", "floats", "band", "bottom", "collapsed",
         "add_scaled", "negate", "divides", "cut", "derivation", "entails", "leaf", "pieces",
     ),
@@ -554,8 +554,8 @@ def write(name, cases):
 def main():
     tables = {name: table for table, names in TABLES.items() for name in names}
     cases = list(all_cases(pathlib.Path(sys.argv[1])))
-    for table in ("cases", *TABLES):
-        write(table, [case for case in cases if tables.get(case[0][0], "cases") == table])
+    for table in ("test_cases", *TABLES):
+        write(table, [case for case in cases if tables.get(case[0][0], "test_cases") == table])
 
 
 main()

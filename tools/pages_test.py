@@ -180,7 +180,7 @@ def placed(page, css):
 
 def outside_cases(*calls):
     """The outside cases of some calls that are not refused: the call, what is given, and the answer."""
-    asked, answered = ((TOP / "crates/cases" / it).read_text(encoding="utf-8").split("\n") for it in ("stdin", "stdout"))
+    asked, answered = ((TOP / "crates/test_cases" / it).read_text(encoding="utf-8").split("\n") for it in ("stdin", "stdout"))
     for line, answer in zip(asked, answered, strict=True):
         if line.startswith(tuple(f'["{it}"' for it in calls)) and answer.startswith("["):
             call, *given = json.loads(line)

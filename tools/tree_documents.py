@@ -1,4 +1,4 @@
-"""Documents that have a box tree, and box trees as the crate `layout_cases` tells them.
+"""Documents that have a box tree, and box trees as the crate `test_layout` tells them.
 
 A tree has `boxes`, `styles`, `fonts` and `parents`, as tools/layout_vectors.py says. Its document has an element or a text for each node;
 the values of a style become declarations of the element's style attribute, and those of a text are its parent's.

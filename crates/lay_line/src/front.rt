@@ -1,7 +1,7 @@
 //! The public call over any `Calc`, its engine within a `Latch`.
 ghost use Rattle.std.specs.Prelude.{◌≡◌, ◌<◌, [], length, IsTrue, IfOk, IfErr, OnErr};
 ghost use Rattle.viz_calc.specs.World.{Reading};
-ghost use Rattle.viz_calc.specs.State.{Grows, AreOpen, CauseButMem, WhereOpen};
+ghost use Rattle.viz_calc.specs.State.{Grows, AreOpen, CauseButMem};
 ghost use Rattle.layout_semantics.specs.Lines.{lines_in};
 ghost use Rattle.lay_float.specs.Agreement.{Agree};
 ghost use Rattle.lay_float.specs.Readings.{floats_at};
@@ -25,14 +25,12 @@ fn laid<C: Calc>(
 ) -> Result<Laid<C::Num>, Halt>
     requires { container.now.at < length container.now.tree.now.boxes }
     ensures grows { Grows (C.state calc.old) (C.state calc.new) }
-    ensures value { IfOk result (λ r. WhereOpen (C.state calc.new).is_open
-        (λ e. laid_at C.at r e ≡ lines_in (context_at C.at container.now e) (C.at y.now e)
-        (C.at least.now e) (floats_at C.at floats e))) }
+    ensures value { IfOk result (λ r. (e : Reading) → IsTrue ((C.state calc.new).is_open e) → laid_at C.at r e
+        ≡ lines_in (context_at C.at container.now e) (C.at y.now e) (C.at least.now e) (floats_at C.at floats e)) }
     ensures kept { AreOpen (C.state calc.old).kept (C.state calc.new) }
-    ensures cause { IfErr result (CauseButMem (C.state calc.old) (C.state calc.new)
-        (WhereOpen (C.state calc.old).is_open
-        (λ e. LinesFit (context_at C.at container.now e) (C.at y.now e) (C.at least.now e)
-        (floats_at C.at floats e)))) }
+    ensures cause { IfErr result (CauseButMem (C.state calc.old) (C.state calc.new) ((e : Reading)
+        → IsTrue ((C.state calc.old).is_open e) → LinesFit (context_at C.at container.now e) (C.at y.now e)
+        (C.at least.now e) (floats_at C.at floats e))) }
 {
     let alloc = container.tree.boxes.allocator();
     let mut latch = Latch::new(calc);
@@ -55,16 +53,14 @@ pub fn lines<C: Calc>(
 ) -> Result<Lines<C::Num>, Halt>
     requires { container.now.at < length container.now.tree.now.boxes }
     ensures grows { Grows (C.state calc.old) (C.state calc.new) }
-    ensures value { IfOk result (λ r. WhereOpen (C.state calc.new).is_open
-        (λ e. list_at C.at r floats.new e
-        ≡ lines_in (context_at C.at container.now e) (C.at y.now e) (C.at least.now e)
-        (floats_at C.at floats.old e))) }
+    ensures value { IfOk result (λ r. (e : Reading) → IsTrue ((C.state calc.new).is_open e)
+        → list_at C.at r floats.new e ≡ lines_in (context_at C.at container.now e) (C.at y.now e) (C.at least.now e)
+        (floats_at C.at floats.old e)) }
     ensures halted { OnErr result (floats.new.placed ≡ []) }
     ensures kept { AreOpen (C.state calc.old).kept (C.state calc.new) }
-    ensures cause { IfErr result (CauseButMem (C.state calc.old) (C.state calc.new)
-        (WhereOpen (C.state calc.old).is_open
-        (λ e. LinesFit (context_at C.at container.now e) (C.at y.now e) (C.at least.now e)
-        (floats_at C.at floats.old e)))) }
+    ensures cause { IfErr result (CauseButMem (C.state calc.old) (C.state calc.new) ((e : Reading)
+        → IsTrue ((C.state calc.old).is_open e) → LinesFit (context_at C.at container.now e) (C.at y.now e)
+        (C.at least.now e) (floats_at C.at floats.old e))) }
     ensures agrees { Agree C.at (C.state calc.new).is_open floats.new }
 {
     let alloc = container.tree.boxes.allocator();
