@@ -1,6 +1,6 @@
 //! What a finding has to pass, whoever made it.
 ghost use Rattle.std.specs.Prelude.{◌≡◌, ◌↔◌, ◌+◌, ◌-◌, ◌≤◌, ◌<◌, ◌^◌, ℕ, List, length, IsTrue, IfOk, IfSome};
-ghost use Rattle.viz_base.specs.Worlds.{IsInRange, world_count};
+ghost use Rattle.viz_base.specs.Worlds.{world_count};
 ghost use Rattle.cert_text.specs.declared.certificate.CertNode.TheVariants.{Grid};
 ghost use Rattle.cert_text.specs.Texts.{CertText};
 ghost use Rattle.cert_check.specs.Truths.{Holds};

@@ -4,7 +4,7 @@ use Rattle.viz_replies.specs.Generated.{sections_most}
 use Rattle.viz_replies.specs.declared.question.Screen.{Screen}
 use Rattle.viz_run.specs.declared.words.Command.{Command}
 use Rattle.viz_run.specs.declared.words.Command.TheVariants as asks_for
-use Rattle.viz_base.specs.declared.limits.TheConstants.{MOST_PIXELS}
+use Rattle.viz_base.specs.declared.limits.TheConstants.{MOST_PIXELS, MOST_SIZE}
 
 -- a height's word, where it is named
 abbrev pub height_words : Option ℕ → List (List ℕ)
@@ -25,7 +25,7 @@ pub record IsScreen (screen : Screen) : Type 0 where
   pub width_least : 1 ≤ screen.w
   pub width_most : screen.w ≤ MOST_PIXELS
   pub size_least : 1 ≤ screen.s
-  pub size_most : screen.s ≤ 256
+  pub size_most : screen.s ≤ MOST_SIZE
   pub height_least : IfSome screen.h (λ h. 1 ≤ h)
   pub height_most : IfSome screen.h (λ h. h ≤ MOST_PIXELS)
 
