@@ -5,6 +5,7 @@ use Rattle.viz_base.specs.declared.worlds.World.{World}
 use Rattle.viz_base.specs.declared.formulas.Formula.{Formula}
 use Rattle.viz_base.specs.declared.formulas.Formula.TheOpen.{Formula-F}
 use Rattle.viz_base.specs.declared.formulas.Formula.TheFolds.{fold-Formula}
+use Rattle.viz_base.specs.declared.formulas.Formula.TheVariants.{Implies}
 use Rattle.viz_base.specs.declared.renderings.Rendering.{Rendering}
 use Rattle.viz_base.specs.Formulas.{has_small_terms}
 use Rattle.viz_calc.specs.World.{Reading}
@@ -33,6 +34,13 @@ is_bare = fold-Formula Bool bare_step
 abbrev pub IsLeftAt : World → Formula → Option Formula → Type 0
 IsLeftAt world f left = (r : Rendering ℤ)
     → truth (scene_of r world) f ≡ option_map_or (truth (scene_of r world)) left true
+
+-- a formula behind a premise without quantifiers
+pub record IsPremised (f : Formula) : Type 0 where
+  pub premise : Formula
+  pub rest : Formula
+  pub is : f ≡ Implies premise rest
+  pub bare : is_bare premise ≡ true
 
 -- at each open reading the world's numbers are bounded, and so are the formula's terms
 pub record IsTameBare (is_open : Reading → Bool) (f : Formula) : Type 0 where

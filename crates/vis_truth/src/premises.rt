@@ -4,7 +4,7 @@ ghost use Rattle.std.specs.Option.{option_copied};
 ghost use Rattle.viz_base.specs.Formulas.{has_small_terms};
 ghost use Rattle.viz_calc.specs.World.{Reading};
 ghost use Rattle.viz_calc.specs.State.{Grows, Cause, is_told};
-ghost use Rattle.vis_truth.specs.Premises.{is_bare, IsLeftAt, IsTameBare};
+ghost use Rattle.vis_truth.specs.Premises.{is_bare, IsLeftAt, IsPremised, IsTameBare};
 
 use crate::verdicts::truth;
 use std::alloc::Global;
@@ -39,6 +39,7 @@ pub fn conclusion<'f, C: Calc>(
     ensures grows { Grows (C.state calc.old) (C.state calc.new) }
     ensures value { IfOk result (λ left. (e : Reading) → IsTrue ((C.state calc.new).is_open e)
         → IsLeftAt e.world f.now (option_copied left)) }
+    ensures whole { IfOk result (λ left. IfSome left (λ g. IsPremised g.now → ⊥)) }
     ensures small { IfOk result (λ left. IsTrue (has_small_terms f.now)
         → IfSome left (λ g. IsTrue (has_small_terms g.now))) }
     ensures cause { IfErr result (Cause (C.state calc.old) (C.state calc.new)
