@@ -6,8 +6,8 @@ use Rattle.viz_base.specs.declared.worlds.World.{World}
 use Rattle.layout_semantics.specs.Flow.{Independent}
 use Rattle.layout_semantics.specs.FlowBoxes.{is_replaced_at, flow_children, content_from, room}
 use Rattle.layout_semantics.specs.Rectangles.{Frame, content_top}
-use Rattle.flow_steps.specs.Flow.{corner_frame, fresh}
-use Rattle.flow_steps.proofs.Sound.{IsSound}
+use Rattle.lay_steps.specs.Flow.{corner_frame, fresh}
+use Rattle.lay_steps.proofs.Sound.{IsSound}
 use Rattle.page_limits.specs.Bounds.{Bounds, AreInside, all_around, grown, IsBandIn, IsLevelIn, IsQuadIn}
 use Rattle.page_limits.specs.Boxes.{AreSidesSmall, AreWidthsSmall, IsIndependentIn, IsWhole}
 use Rattle.page_limits.specs.Loads.{greatest_length}

@@ -6,7 +6,7 @@ use Rattle.viz_base.specs.declared.worlds.World.{World}
 use Rattle.layout_semantics.specs.Flow.{Independent}
 use Rattle.layout_semantics.specs.FlowBoxes.{flow_children}
 use Rattle.layout_semantics.specs.InlineContent.{has_line}
-use Rattle.flow_steps.specs.Flow.{Context, Step}
+use Rattle.lay_steps.specs.Flow.{Context, Step}
 use Rattle.lay_flow.specs.steps.Flow.{in_lines, children_of, content_by, content_of}
 use Rattle.lay_flow.proofs.Same.{content-named}
 

@@ -18,7 +18,7 @@ use Rattle.page_limits.proofs.Levels.{All-map}
 use Rattle.page_limits.specs.Bounds.{IsQuadIn, IsFloatIn}
 use Rattle.page_limits.specs.Boxes.{IsHeightClamped}
 use Rattle.page_limits.specs.Inline.{IsSmall}
-use Rattle.flow_steps.specs.Flow.{Standing, at_top, below, Context, next_edge, block_height}
+use Rattle.lay_steps.specs.Flow.{Standing, at_top, below, Context, next_edge, block_height}
 use Rattle.lay_flow.specs.Low.{reach, IsLevelLow, IsRunLow, IsStandingLow, IsContextLow, IsFrameLow}
 use Rattle.lay_flow.specs.Fits.{IsNear, IsHeightFit, near}
 use Rattle.lay_flow.specs.steps.Flow.{tall_of}

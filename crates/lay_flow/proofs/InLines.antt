@@ -20,7 +20,7 @@ use Rattle.lay_float.proofs.Loops.{goes-on}
 use Rattle.lay_line.specs.Contexts.{inner_at, table_at}
 use Rattle.lay_line.specs.Readings.{entry_at, entries_at}
 use Rattle.lay_margin.specs.Runs.{no_run}
-use Rattle.flow_steps.specs.Flow.{Standing, below, Context, line_tops, after_lines}
+use Rattle.lay_steps.specs.Flow.{Standing, below, Context, line_tops, after_lines}
 use Rattle.lay_flow.specs.steps.Flow.{inner_of, entry_of, inner_table, filled_table, lines_of, in_lines}
 
 -- with one place set

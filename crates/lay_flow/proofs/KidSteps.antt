@@ -5,7 +5,7 @@ use Rattle.viz_base.specs.declared.layouts.Band.{Band}
 use Rattle.viz_base.specs.declared.trees.BoxTree.{BoxTree}
 use Rattle.viz_base.specs.declared.worlds.World.{World}
 use Rattle.layout_semantics.specs.Flow.{Independent}
-use Rattle.flow_steps.specs.Flow.{Context, followed}
+use Rattle.lay_steps.specs.Flow.{Context, followed}
 use Rattle.lay_flow.specs.IndependentFits.{BoxAddedFits, BoxesAddedFit}
 use Rattle.lay_flow.specs.steps.Flow.{child_of, children_of, with_box, with_boxes}
 

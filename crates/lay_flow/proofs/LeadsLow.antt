@@ -16,8 +16,8 @@ use Rattle.lay_margin.specs.Fitting.{itself, inside}
 use Rattle.lay_margin.specs.Runs.{with_margin, collapse}
 use Rattle.lay_margin.specs.steps.Leads.{Going, going_on, kid_of, through, enters, stops, inner_band, margin_above, margin_below, lead_to}
 use Rattle.lay_margin.proofs.Fitted.{kids-fit}
-use Rattle.flow_steps.specs.Runs.{edge_at}
-use Rattle.flow_steps.proofs.LeadCases.{kid-float, kid-flow, kids_lead, lead-stops, lead-solid, lead-inside}
+use Rattle.lay_steps.specs.Runs.{edge_at}
+use Rattle.lay_steps.proofs.LeadCases.{kid-float, kid-flow, kids_lead, lead-stops, lead-solid, lead-inside}
 use Rattle.page_limits.specs.Bounds.{all_around, IsLevelIn}
 use Rattle.lay_flow.specs.Low.{IsLevelLow, IsAsideLow, IsRunLow, IsBaseLow}
 use Rattle.lay_flow.specs.WayFits.{IsLeadLow, AreKidsLow}

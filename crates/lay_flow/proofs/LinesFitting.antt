@@ -17,7 +17,7 @@ use Rattle.layout_semantics.specs.Lengths.{own}
 use Rattle.layout_semantics.specs.Lists.{table_of, room_for}
 use Rattle.layout_semantics.specs.Order.{IsOnPage}
 use Rattle.lay_line.specs.LinesFit.{LinesFit}
-use Rattle.flow_steps.specs.Flow.{Context}
+use Rattle.lay_steps.specs.Flow.{Context}
 use Rattle.page_limits.specs.Bounds.{all_around, IsBandIn, IsFloatIn, IsLevelIn}
 use Rattle.page_limits.specs.Boxes.{IsIndependentIn, IsWhole}
 use Rattle.page_limits.proofs.WidthsLevels.{IsFarPage}

@@ -8,7 +8,7 @@ use Rattle.viz_base.specs.declared.worlds.World.{World}
 use Rattle.layout_semantics.specs.Floats.{FloatBox}
 use Rattle.layout_semantics.specs.Flow.{Independent}
 use Rattle.lay_line.specs.LinesFit.{LinesFit}
-use Rattle.flow_steps.specs.Flow.{Context}
+use Rattle.lay_steps.specs.Flow.{Context}
 use Rattle.lay_flow.specs.WalkFits.{inline_context}
 use Rattle.lay_flow.specs.steps.Flow.{inner_table}
 

@@ -7,8 +7,8 @@ use Rattle.viz_base.specs.declared.worlds.World.{World}
 use Rattle.layout_semantics.specs.Blocks.{kind_of}
 use Rattle.layout_semantics.specs.Flow.{Independent}
 use Rattle.layout_semantics.proofs.Pages.{all-on-page, within-page}
-use Rattle.flow_steps.specs.Tables.{laid_at, outside_of}
-use Rattle.flow_steps.proofs.InOrder.{root_no_inline}
+use Rattle.lay_steps.specs.Tables.{laid_at, outside_of}
+use Rattle.lay_steps.proofs.InOrder.{root_no_inline}
 use Rattle.page_limits.proofs.PageWithin.{IsApart, outside-good}
 use Rattle.page_limits.proofs.WholePage.{root-room}
 use Rattle.lay_flow.specs.IndependentFits.{IndependentFits, BoxAddedFits, BoxesAddedFit, ContainerFits, PageComesFit}

@@ -17,7 +17,7 @@ use Rattle.lay_margin.specs.Fitting.{BoxFits}
 use Rattle.page_limits.specs.Bounds.{IsBandIn, IsFloatIn, IsLevelIn, all_around}
 use Rattle.page_limits.specs.Boxes.{ArePropertiesSmall, IsIndependentIn, IsInlineBoxSmall, IsWhole}
 use Rattle.page_limits.specs.Raises.{AreRaisesSmall}
-use Rattle.flow_steps.specs.Flow.{Context}
+use Rattle.lay_steps.specs.Flow.{Context}
 use Rattle.lay_flow.specs.Fits.{IsHeightFit, IsReplacedFit, IsShapeFit}
 use Rattle.lay_flow.specs.Low.{IsBandLow}
 use Rattle.lay_flow.specs.WalkFits.{inline_context}

@@ -8,7 +8,7 @@ use Rattle.layout_semantics.proofs.Pages.{first-boxed, within-page}
 use Rattle.lay_preferred.proofs.SmallBoxes.{boxes-fit}
 use Rattle.lay_preferred.proofs.SmallPages.{small-boxes}
 use Rattle.lay_length.specs.Limits.{IsWithinLimits}
-use Rattle.flow_steps.proofs.InOrder.{root-whole}
+use Rattle.lay_steps.proofs.InOrder.{root-whole}
 use Rattle.page_limits.specs.Boxes.{IsWhole}
 use Rattle.page_limits.proofs.HeightsSmall.{raises-small}
 use Rattle.page_limits.proofs.PageSmall.{properties-small, inline-small}

@@ -9,8 +9,8 @@ use Rattle.layout_semantics.specs.Leads.{is_up_to, none_passed}
 use Rattle.layout_semantics.specs.Clearance.{hangs, stands}
 use Rattle.lay_margin.specs.declared.runs.Run.{Run}
 use Rattle.lay_margin.specs.Runs.{no_run, collapse}
-use Rattle.flow_steps.specs.Flow.{Standing, at_top, below, Context, Met, met}
-use Rattle.flow_steps.specs.Forward.{Found, cleared_of}
+use Rattle.lay_steps.specs.Flow.{Standing, at_top, below, Context, Met, met}
+use Rattle.lay_steps.specs.Forward.{Found, cleared_of}
 use Rattle.lay_flow.specs.steps.Flow.{forward_of, reached_from, reached_of}
 
 module _ (tree : BoxTree) (w : World) (apart : ℕ → Independent) (cb : Band ℤ) (s : Context) (b : ℕ) where

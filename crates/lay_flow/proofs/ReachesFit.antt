@@ -18,9 +18,9 @@ use Rattle.layout_semantics.specs.Clearance.{Base, hangs, stands}
 use Rattle.lay_margin.specs.declared.runs.Run.{Run}
 use Rattle.lay_margin.specs.Fitting.{BoxFits}
 use Rattle.lay_margin.specs.Runs.{no_run, collapse}
-use Rattle.flow_steps.specs.Flow.{Standing, at_top, below, Context, Met, met, ground_of, size_in}
-use Rattle.flow_steps.specs.Forward.{End, Found, goes_on, solid, cleared, cleared_of, forward}
-use Rattle.flow_steps.proofs.Sound.{IsFlowKid}
+use Rattle.lay_steps.specs.Flow.{Standing, at_top, below, Context, Met, met, ground_of, size_in}
+use Rattle.lay_steps.specs.Forward.{End, Found, goes_on, solid, cleared, cleared_of, forward}
+use Rattle.lay_steps.proofs.Sound.{IsFlowKid}
 use Rattle.page_limits.specs.Bounds.{Bounds, AreInside, grown, all_around, IsLevelIn, IsBandIn, IsFloatIn}
 use Rattle.page_limits.specs.Boxes.{IsWhole, IsBoxSmall, IsIndependentIn}
 use Rattle.page_limits.proofs.Levels.{inside-grown}

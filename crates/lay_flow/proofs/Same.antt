@@ -1,4 +1,4 @@
--- The steps of the flow with their names are those of flow_steps.
+-- The steps of the flow with their names are those of lay_steps.
 use Rattle.std.proofs.Common.{◌≡◌, ℕ, ◌<◌, ℤ, Bool, true, false, List, [], ◌∷◌, length, Some, None, refl, ap, sym, ◌∙◌}
 use Rattle.std.specs.Prelude.{◌==◌, ◌+ℤ◌, map, unwrap_or, flat_map}
 use Rattle.viz_base.specs.declared.layouts.Band.{Band}
@@ -15,10 +15,10 @@ use Rattle.layout_semantics.specs.Clearance.{hangs, stands}
 use Rattle.lay_line.proofs.Lays.{lines-are}
 use Rattle.lay_margin.specs.declared.runs.Run.{Run}
 use Rattle.lay_margin.specs.Runs.{no_run, collapse}
-use Rattle.flow_steps.specs.Flow as flow
-use Rattle.flow_steps.specs.Flow.{Standing, at_top, below, Context, Step, step, Laid, Met, met, after_lines, children, followed}
-use Rattle.flow_steps.specs.Forward.{Found, cleared_of}
-use Rattle.flow_steps.proofs.Levels.{content-is}
+use Rattle.lay_steps.specs.Flow as flow
+use Rattle.lay_steps.specs.Flow.{Standing, at_top, below, Context, Step, step, Laid, Met, met, after_lines, children, followed}
+use Rattle.lay_steps.specs.Forward.{Found, cleared_of}
+use Rattle.lay_steps.proofs.Levels.{content-is}
 use Rattle.lay_flow.specs.steps.Flow as named
 use Rattle.lay_flow.specs.steps.Flow.{ending_of, reached_from, reached_of, standing_after, float_of, in_lines, in_flow, laid_of, child_of, content_by}
 
@@ -129,7 +129,7 @@ module _ (tree : BoxTree) (w : World) (apart : ℕ → Independent) where
       by true = lines-same b cb top s
       by false = children-same cb top s (flow_children tree b)
 
-  -- the named step is what is in the box, as flow_steps has it
+  -- the named step is what is in the box, as lay_steps has it
   pub content-same : (b : ℕ) (cb : Band ℤ) (top : ℤ) (s : Context) → b < length tree.boxes → content_by tree w apart b cb top s ≡ flow.content_of tree w apart b cb top s
   content-same b cb top s l = step-same b cb top s ∙ sym (content-is tree w apart b cb top s l)
 

@@ -25,7 +25,7 @@ use Rattle.page_limits.proofs.FloatSpots.{spot-in}
 use Rattle.page_limits.proofs.Levels.{quad-wider, level-wider, level-max}
 use Rattle.page_limits.specs.Bounds.{Bounds, levels_of, AreInside, IsLevelIn, IsQuadIn, IsFloatIn, IsExtentIn}
 use Rattle.page_limits.specs.Inline.{IsSmall}
-use Rattle.flow_steps.specs.Flow.{line_tops}
+use Rattle.lay_steps.specs.Flow.{line_tops}
 use Rattle.lay_flow.specs.Low.{reach, IsLevelLow, AreLevelsLow, IsBandLow}
 use Rattle.lay_flow.specs.Fits.{IsNear, IsSpotNear, IsEntryLow}
 use Rattle.lay_flow.proofs.Sizes.{wider, plus, level, level-size, size-level, quad-size, IsQuadSmall, quad-fits}

@@ -12,7 +12,7 @@ use Rattle.layout_semantics.proofs.Pages.{forest}
 use Rattle.layout_laws.proofs.Levels.{IsFrom, All-implied, inner_boxes-from}
 use Rattle.layout_laws.proofs.LeadLevels.{children-from}
 use Rattle.lay_frame.specs.Readings.{boxes_at}
-use Rattle.flow_steps.specs.Tables.{laid_at, outside_of, page_boxes}
+use Rattle.lay_steps.specs.Tables.{laid_at, outside_of, page_boxes}
 use Rattle.page_limits.proofs.Levels.{All-filter}
 use Rattle.lay_flow.specs.declared.parts.Independent.{Independent as IndependentBox}
 use Rattle.lay_flow.specs.Readings.{independent_at, apart_at, table_at}

@@ -8,9 +8,9 @@ use Rattle.viz_base.specs.declared.worlds.World.{World}
 use Rattle.layout_semantics.specs.Blocks.{kind_of}
 use Rattle.layout_semantics.specs.Flow.{Independent}
 use Rattle.layout_semantics.specs.FlowBoxes.{is_replaced_at, room}
-use Rattle.flow_steps.specs.Flow as flow
-use Rattle.flow_steps.specs.Tables as steps
-use Rattle.flow_steps.specs.Tables.{laid_at, outside_of, page_boxes}
+use Rattle.lay_steps.specs.Flow as flow
+use Rattle.lay_steps.specs.Tables as steps
+use Rattle.lay_steps.specs.Tables.{laid_at, outside_of, page_boxes}
 use Rattle.lay_flow.proofs.IndependentBoxes.{independent-replaced, independent-context}
 use Rattle.lay_flow.specs.steps.Flow.{corner_of, replaced_of, root_of, tall_of, content_of, replaced_independent, context_independent, independent_of, with_box, with_boxes, with_container, table_to}
 

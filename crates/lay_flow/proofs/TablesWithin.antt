@@ -11,9 +11,9 @@ use Rattle.layout_semantics.specs.Flow.{Independent}
 use Rattle.layout_semantics.specs.FlowBoxes.{room}
 use Rattle.layout_semantics.specs.InlineContent.{has_line}
 use Rattle.layout_semantics.specs.Order.{IsOnPage}
-use Rattle.flow_steps.specs.Tables.{laid_at, nothing_independent}
-use Rattle.flow_steps.proofs.InOrder.{box_before}
-use Rattle.flow_steps.proofs.Sound.{IsSound}
+use Rattle.lay_steps.specs.Tables.{laid_at, nothing_independent}
+use Rattle.lay_steps.proofs.InOrder.{box_before}
+use Rattle.lay_steps.proofs.Sound.{IsSound}
 use Rattle.page_limits.specs.Bounds.{Bounds, AreInside, all_around, no_bounds}
 use Rattle.page_limits.specs.Boxes.{IsIndependentIn, IsBoxSmall, IsWhole}
 use Rattle.page_limits.specs.Inline.{IsContentSmall}

@@ -17,8 +17,8 @@ use Rattle.layout_laws.proofs.Levels.{All-implied}
 use Rattle.lay_float.specs.Limits.{AllHalf, AreHalf}
 use Rattle.lay_margin.specs.declared.runs.Run.{Run}
 use Rattle.lay_margin.specs.steps.Leads.{lead_of}
-use Rattle.flow_steps.specs.Forward.{hypothetical_edge}
-use Rattle.flow_steps.specs.Runs.{edge_at}
+use Rattle.lay_steps.specs.Forward.{hypothetical_edge}
+use Rattle.lay_steps.specs.Runs.{edge_at}
 use Rattle.page_limits.specs.Bounds.{AreInside, all_around, levels_of, IsLevelIn, IsBandIn, IsExtentIn, IsFloatIn, IsQuadIn}
 use Rattle.page_limits.proofs.FloatSpots.{with-float}
 use Rattle.page_limits.proofs.FloatsMet.{floats-wider, band-wider}

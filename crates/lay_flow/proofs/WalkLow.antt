@@ -9,7 +9,7 @@ use Rattle.layout_semantics.specs.Flow.{Independent}
 use Rattle.layout_semantics.specs.FlowBoxes.{flow_children}
 use Rattle.layout_semantics.specs.InlineContent.{has_line, is_floated_at}
 use Rattle.layout_semantics.specs.Verticals.{Verticals}
-use Rattle.flow_steps.specs.Flow.{Context, Met, Standing, Step, at_top, below}
+use Rattle.lay_steps.specs.Flow.{Context, Met, Standing, Step, at_top, below}
 use Rattle.page_limits.specs.Bounds.{Bounds, AreInside, all_around}
 use Rattle.page_limits.specs.Boxes.{AreSidesSmall, AreWidthsSmall, IsIndependentIn}
 use Rattle.page_limits.proofs.BoxesWithin.{boxes-wider}

@@ -20,9 +20,9 @@ use Rattle.layout_semantics.specs.Verticals.{verticals}
 use Rattle.layout_laws.proofs.Levels.{All-implied}
 use Rattle.lay_margin.specs.declared.runs.Run.{Run}
 use Rattle.lay_margin.specs.Fitting.{BoxFits}
-use Rattle.flow_steps.specs.Flow as flow
-use Rattle.flow_steps.specs.Flow.{Context, Met, Step, content_of, fresh, met, Standing, at_top, below}
-use Rattle.flow_steps.proofs.Sound.{IsFlowKid, IsSound}
+use Rattle.lay_steps.specs.Flow as flow
+use Rattle.lay_steps.specs.Flow.{Context, Met, Step, content_of, fresh, met, Standing, at_top, below}
+use Rattle.lay_steps.proofs.Sound.{IsFlowKid, IsSound}
 use Rattle.page_limits.specs.Bounds.{Bounds, AreInside, grown, all_around, IsBandIn, IsLevelIn}
 use Rattle.page_limits.specs.Boxes.{IsIndependentIn, IsBoxSmall, IsWhole}
 use Rattle.page_limits.specs.Inline.{AreLinesIn, IsContentSmall, IsEntryIn}

@@ -9,7 +9,7 @@ use Rattle.viz_base.specs.declared.worlds.World.{World}
 use Rattle.layout_semantics.specs.Floats.{FloatBox, floating, float_spot, with_float_at}
 use Rattle.layout_semantics.specs.Flow.{Independent}
 use Rattle.layout_semantics.specs.Rectangles.{shifted}
-use Rattle.flow_steps.specs.Flow.{Standing, Context, Laid, Met, met, next_edge}
+use Rattle.lay_steps.specs.Flow.{Standing, Context, Laid, Met, met, next_edge}
 use Rattle.lay_flow.specs.Readings.{without_boxes}
 use Rattle.lay_flow.specs.steps.Flow.{Ending, ending_of, float_of, reached_of, laid_of, standing_after, in_flow}
 

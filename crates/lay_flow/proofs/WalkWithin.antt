@@ -13,9 +13,9 @@ use Rattle.layout_semantics.specs.Rectangles.{Frame, content_top}
 use Rattle.layout_laws.proofs.Levels.{IsFrom, All-implied}
 use Rattle.layout_laws.proofs.LeadLevels.{children-from}
 use Rattle.lay_margin.specs.Runs.{no_run}
-use Rattle.flow_steps.specs.Flow as flow
-use Rattle.flow_steps.specs.Flow.{Context, Standing, Step, at_top, below, fresh, content_of}
-use Rattle.flow_steps.proofs.Sound.{IsFlowKid, IsSound, flow-sound}
+use Rattle.lay_steps.specs.Flow as flow
+use Rattle.lay_steps.specs.Flow.{Context, Standing, Step, at_top, below, fresh, content_of}
+use Rattle.lay_steps.proofs.Sound.{IsFlowKid, IsSound, flow-sound}
 use Rattle.page_limits.specs.Bounds.{Bounds, AreInside, grown, all_around, together, IsBandIn, IsLevelIn}
 use Rattle.page_limits.specs.Boxes.{IsIndependentIn, IsBoxSmall, IsWhole}
 use Rattle.page_limits.specs.Inline.{IsContentSmall}

@@ -5,7 +5,7 @@ use Rattle.viz_base.specs.declared.trees.BoxTree.{BoxTree}
 use Rattle.viz_base.specs.declared.worlds.World.{World}
 use Rattle.layout_semantics.specs.Flow.{Independent, Cleared}
 use Rattle.layout_semantics.specs.Rectangles.{Frame}
-use Rattle.flow_steps.specs.Flow.{Context}
+use Rattle.lay_steps.specs.Flow.{Context}
 use Rattle.lay_flow.specs.WalkFits.{Place, before_content, before_children, before_child, before_flow, when_reached, when_starting, when_going_on, ContentFits, ChildrenFit, ChildFits, FlowFits, LaidFits, AroundFits, StartFits, GoOnFits, PlaceFits, FitsTo, WalkFits, inner_end}
 
 module _ (tree : BoxTree) (w : World) (apart : ℕ → Independent) where

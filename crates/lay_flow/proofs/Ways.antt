@@ -6,9 +6,9 @@ use Rattle.viz_calc.specs.World.{Reading}
 use Rattle.lay_float.specs.Readings.{boxes_at, option_at}
 use Rattle.lay_margin.specs.Readings.{passed_by}
 use Rattle.lay_margin.specs.declared.runs.Run.{Run}
-use Rattle.flow_steps.specs.Forward.{box_found}
-use Rattle.flow_steps.proofs.Levels.{way-is}
-use Rattle.flow_steps.specs.Flow.{size_in}
+use Rattle.lay_steps.specs.Forward.{box_found}
+use Rattle.lay_steps.proofs.Levels.{way-is}
+use Rattle.lay_steps.specs.Flow.{size_in}
 use Rattle.lay_flow.specs.Readings.{apart_at, base_at}
 use Rattle.lay_flow.specs.Ways.{ground_at, way_at, inner_at}
 use Rattle.lay_flow.specs.declared.forward.Way.{Way}

@@ -22,9 +22,9 @@ use Rattle.lay_margin.specs.Fitting.{BoxFits, LeadsTo, itself}
 use Rattle.lay_margin.specs.Fitting.{inside as leads_inside}
 use Rattle.lay_margin.specs.Runs.{with_margin}
 use Rattle.lay_margin.specs.steps.Leads.{enters, inner_band, margin_above, margin_below}
-use Rattle.flow_steps.specs.Forward.{Found, End, goes_on, solid, cleared, found, kid_of, passed_box, way}
-use Rattle.flow_steps.proofs.LeadCases.{found-float, found-flow}
-use Rattle.flow_steps.proofs.Sound.{IsFlowKid, enters-no-line, lead-sound}
+use Rattle.lay_steps.specs.Forward.{Found, End, goes_on, solid, cleared, found, kid_of, passed_box, way}
+use Rattle.lay_steps.proofs.LeadCases.{found-float, found-flow}
+use Rattle.lay_steps.proofs.Sound.{IsFlowKid, enters-no-line, lead-sound}
 use Rattle.page_limits.specs.Bounds.{Bounds, AreInside, grown, all_around, together, IsLevelIn, IsBandIn, IsFloatIn}
 use Rattle.page_limits.specs.Boxes.{AreWidthsSmall, IsWhole, IsBoxSmall}
 use Rattle.page_limits.proofs.Levels.{level-wider, inside-grown, inside-more, together-append}

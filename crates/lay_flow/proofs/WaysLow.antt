@@ -11,7 +11,7 @@ use Rattle.lay_margin.specs.declared.runs.Run.{Run}
 use Rattle.lay_margin.specs.Fitting.{MarginFits, InsideFits, itself}
 use Rattle.lay_margin.specs.Runs.{with_margin}
 use Rattle.lay_margin.specs.steps.Leads.{enters, inner_band, margin_above}
-use Rattle.flow_steps.specs.Forward.{End, goes_on, solid, cleared, Found, kid_of, kids_found}
+use Rattle.lay_steps.specs.Forward.{End, goes_on, solid, cleared, Found, kid_of, kids_found}
 use Rattle.lay_flow.specs.WayFits.{here, inside, first, later, IsDecisionLow, WayFits, KidsFit, KidFits}
 use Rattle.lay_flow.proofs.LeadsLow.{lead-inner}
 

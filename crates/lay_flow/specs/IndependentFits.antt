@@ -9,8 +9,8 @@ use Rattle.layout_semantics.specs.Flow.{Independent}
 use Rattle.layout_semantics.specs.FlowBoxes.{content_from, is_replaced_at, room, room_to}
 use Rattle.layout_semantics.specs.Rectangles.{Frame, content_top}
 use Rattle.page_limits.specs.Bounds.{IsQuadIn}
-use Rattle.flow_steps.specs.Flow.{Context, fresh}
-use Rattle.flow_steps.specs.Tables.{laid_at, outside_of}
+use Rattle.lay_steps.specs.Flow.{Context, fresh}
+use Rattle.lay_steps.specs.Tables.{laid_at, outside_of}
 use Rattle.lay_flow.specs.Low.{IsContextLow, IsFrameLow}
 use Rattle.lay_flow.specs.Fits.{IsHeightFit, IsReplacedFit, IsShapeFit, near}
 use Rattle.lay_flow.specs.WalkFits.{WalkFits, before_content, inner_end}

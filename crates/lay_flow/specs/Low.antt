@@ -8,7 +8,7 @@ use Rattle.layout_semantics.specs.Flow.{Independent, Cleared}
 use Rattle.layout_semantics.specs.Rectangles.{Frame}
 use Rattle.layout_semantics.specs.Clearance.{Base, hangs, stands}
 use Rattle.lay_margin.specs.declared.runs.Run.{Run}
-use Rattle.flow_steps.specs.Flow.{Standing, at_top, below, Context}
+use Rattle.lay_steps.specs.Flow.{Standing, at_top, below, Context}
 use Rattle.page_limits.specs.Bounds.{Bounds, all_around, IsLevelIn, IsAsideIn, IsBandIn, IsExtentIn, IsFloatIn, IsPlacedIn}
 use Rattle.page_limits.specs.Boxes.{AreWidthsSmall, AreSidesSmall}
 

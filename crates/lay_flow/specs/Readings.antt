@@ -6,10 +6,10 @@ use Rattle.lay_float.specs.Readings.{floats_at, extent_at, option_at}
 use Rattle.lay_margin.specs.Readings as margins
 use Rattle.lay_margin.specs.Runs.{run_at}
 use Rattle.lay_frame.specs.Readings.{boxes_at}
-use Rattle.flow_steps.specs.Flow as steps
-use Rattle.flow_steps.specs.Forward as forward
+use Rattle.lay_steps.specs.Flow as steps
+use Rattle.lay_steps.specs.Forward as forward
 use Rattle.layout_semantics.specs.Clearance as clearance
-use Rattle.flow_steps.specs.Tables.{laid_at}
+use Rattle.lay_steps.specs.Tables.{laid_at}
 use Rattle.lay_flow.specs.steps.Flow.{Ending}
 use Rattle.lay_flow.specs.declared.parts.Cleared.{Cleared as ClearedBox}
 use Rattle.lay_flow.specs.declared.parts.Standing.{Standing}

@@ -13,7 +13,7 @@ use Rattle.layout_semantics.specs.Rectangles.{Frame, content_top}
 use Rattle.lay_width.specs.Fitting.{VerticalsFit}
 use Rattle.lay_line.specs.LinesFit.{LinesFit}
 use Rattle.lay_preferred.specs.Fitting.{BoxesFit}
-use Rattle.flow_steps.specs.Flow.{Context, fresh}
+use Rattle.lay_steps.specs.Flow.{Context, fresh}
 use Rattle.lay_flow.specs.Low.{AreApartLow, AreLevelsLow, IsIndependentLow, IsAsideLow, IsBandLow, IsContextLow, IsFrameLow, IsLevelLow, IsRunLow, IsStandingLow}
 use Rattle.lay_flow.specs.Fits.{IsEntryLow, IsHeightFit, IsNear, IsReplacedFit, IsShapeFit}
 use Rattle.lay_flow.specs.WayFits.{ReachFits}

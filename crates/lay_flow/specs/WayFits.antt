@@ -17,8 +17,8 @@ use Rattle.lay_margin.specs.declared.runs.Run.{Run}
 use Rattle.lay_margin.specs.Fitting.{edges, BoxFits, LeadsTo}
 use Rattle.lay_margin.specs.Runs.{no_run, with_margin}
 use Rattle.lay_margin.specs.steps.Leads.{enters, inner_band, margin_above, margin_below}
-use Rattle.flow_steps.specs.Flow.{Standing, at_top, below, Context, ground_of}
-use Rattle.flow_steps.specs.Forward.{Found, goes_on, cleared_of, kid_of, forward, way}
+use Rattle.lay_steps.specs.Flow.{Standing, at_top, below, Context, ground_of}
+use Rattle.lay_steps.specs.Forward.{Found, goes_on, cleared_of, kid_of, forward, way}
 use Rattle.page_limits.specs.Bounds.{all_around, levels_of, IsLevelIn, IsBandIn, IsFloatIn}
 use Rattle.lay_flow.specs.Low.{reach, IsLevelLow, AreLevelsLow, IsAsideLow, IsRunLow, IsClearedLow, IsBaseLow, IsWaitingLow}
 

@@ -14,9 +14,9 @@ use Rattle.lay_margin.specs.declared.runs.Run.{Run as Margins}
 use Rattle.lay_float.specs.TrialReadings.{trial_at}
 use Rattle.lay_float.specs.Trials.{Tried}
 use Rattle.lay_float.specs.declared.trial.Trial.{Trial}
-use Rattle.flow_steps.specs.Forward as forward
-use Rattle.flow_steps.specs.Flow.{size_in}
-use Rattle.flow_steps.specs.Forward.{Found, way}
+use Rattle.lay_steps.specs.Forward as forward
+use Rattle.lay_steps.specs.Flow.{size_in}
+use Rattle.lay_steps.specs.Forward.{Found, way}
 use Rattle.lay_flow.specs.Readings.{apart_at, base_at}
 use Rattle.lay_flow.specs.WayFits.{IsDecisionLow, WaitingFits, WayFits, KidsFit, KidFits}
 use Rattle.lay_flow.specs.Tries.{IsTrialOf}

@@ -15,11 +15,11 @@ ghost use Rattle.lay_float.specs.TrialReadings.{coming_at, trial_at};
 ghost use Rattle.lay_margin.specs.Fitting.{edges};
 ghost use Rattle.lay_margin.specs.Readings.{floats_at as waiting_all, waiting_at as waiting_one};
 ghost use Rattle.lay_margin.specs.Runs.{run_at};
-ghost use Rattle.flow_steps.specs.Runs.{edge_at};
-ghost use Rattle.flow_steps.specs.Forward.{hypothetical_edge as hypothetical_of};
-ghost use Rattle.flow_steps.specs.Forward.{is_to_clear as to_clear_of, clear_edge as clear_edge_of};
-ghost use Rattle.flow_steps.specs.Forward.{decided as decided_of};
-ghost use Rattle.flow_steps.specs.Flow.{size_in};
+ghost use Rattle.lay_steps.specs.Runs.{edge_at};
+ghost use Rattle.lay_steps.specs.Forward.{hypothetical_edge as hypothetical_of};
+ghost use Rattle.lay_steps.specs.Forward.{is_to_clear as to_clear_of, clear_edge as clear_edge_of};
+ghost use Rattle.lay_steps.specs.Forward.{decided as decided_of};
+ghost use Rattle.lay_steps.specs.Flow.{size_in};
 ghost use Rattle.lay_flow.specs.Low.{IsBaseLow, IsRunLow};
 ghost use Rattle.lay_flow.specs.Readings.{apart_at, base_at, found_at};
 ghost use Rattle.lay_flow.specs.WayFits.{IsLeadLow, WaitingFits, IsGroundLow, IsGoingLow};
@@ -86,7 +86,7 @@ fn clear_in_flow(tree: &BoxTree, b: u32) -> Clear
     own_clear(tree, b)
 }
 
-#[tactic(auto, unfolding(flow_steps::specs::Forward::hypothetical_edge))]
+#[tactic(auto, unfolding(lay_steps::specs::Forward::hypothetical_edge))]
 /// The border edge of a box with `clear` if it were not cleared.
 fn hypothetical_edge<S: Steady>(
     alloc: Global,
@@ -132,7 +132,7 @@ fn coming<'a, N>(tree: &BoxTree, float: &'a Waiting<N>, size: &'a Extent<N>) -> 
     }
 }
 
-#[tactic(auto, unfolding(flow_steps::specs::Flow::size_in))]
+#[tactic(auto, unfolding(lay_steps::specs::Flow::size_in))]
 /// Tries the first float that waits, where the run of margins ends at y.
 fn try_first<S: Steady>(
     alloc: Global,
@@ -152,7 +152,7 @@ fn try_first<S: Steady>(
     begin(alloc, calc, way.floats, &next, way.least.as_ref(), y)
 }
 
-#[tactic(auto, unfolding(flow_steps::specs::Flow::size_in))]
+#[tactic(auto, unfolding(lay_steps::specs::Flow::size_in))]
 /// Tries the next one.
 fn try_next<S: Steady>(
     alloc: Global,
@@ -530,7 +530,7 @@ fn content<S: Steady>(
 }
 
 #[cycle(onward)]
-#[tactic(auto, unfolding(flow_steps::specs::Forward::kid_of))]
+#[tactic(auto, unfolding(lay_steps::specs::Forward::kid_of))]
 /// The same of boxes behind a box, one after another.
 fn kids<S: Steady>(
     alloc: Global,

@@ -5,7 +5,7 @@ ghost use Rattle.layout_semantics.specs.DefiniteHeights.{height_around as height
 ghost use Rattle.layout_semantics.specs.Replaced.{replaced_size};
 ghost use Rattle.lay_margin.specs.Runs.{run_at};
 ghost use Rattle.lay_width.specs.Readings.{option_at};
-ghost use Rattle.flow_steps.specs.Flow.{next_edge as edge_of, block_height as tall_block, joined_run as joined_of};
+ghost use Rattle.lay_steps.specs.Flow.{next_edge as edge_of, block_height as tall_block, joined_run as joined_of};
 ghost use Rattle.lay_float.specs.Readings.{boxes_at as floats_in};
 ghost use Rattle.lay_flow.specs.Readings.{standing_at, context_at};
 ghost use Rattle.lay_flow.specs.steps.Flow.{tall_of};

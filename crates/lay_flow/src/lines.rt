@@ -17,7 +17,7 @@ ghost use Rattle.lay_line.specs.Contexts.{inner_at, table_at};
 ghost use Rattle.lay_line.specs.Items.{items_of};
 ghost use Rattle.lay_line.specs.Lining.{laid_at};
 ghost use Rattle.lay_line.specs.Readings.{entry_at, entries_at};
-ghost use Rattle.flow_steps.specs.Flow.{line_tops};
+ghost use Rattle.lay_steps.specs.Flow.{line_tops};
 ghost use Rattle.lay_flow.specs.WalkFits.{InLinesFit};
 ghost use Rattle.lay_flow.specs.Readings.{apart_at, context_at};
 ghost use Rattle.lay_flow.specs.steps.Flow.{inner_of as inner_of_step, entry_of, inner_table as table_of, lines_of, in_lines as lines_step, filled_table};

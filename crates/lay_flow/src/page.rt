@@ -10,7 +10,7 @@ ghost use Rattle.layout_semantics.specs.Page.{page_rendering};
 ghost use Rattle.lay_frame.specs.Readings.{boxes_at};
 ghost use Rattle.lay_preferred.specs.Readings.{AreFound};
 ghost use Rattle.lay_length.specs.Limits.{IsWithinLimits};
-ghost use Rattle.flow_steps.specs.Tables.{outside_of as outside, page_boxes};
+ghost use Rattle.lay_steps.specs.Tables.{outside_of as outside, page_boxes};
 ghost use Rattle.lay_flow.specs.IndependentFits.{BoxAddedFits, BoxesAddedFit, ContainerFits, PageComesFit, TableFits};
 ghost use Rattle.lay_flow.specs.WalkFits.{AllFit};
 ghost use Rattle.lay_flow.specs.Readings.{table_at};

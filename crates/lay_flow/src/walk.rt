@@ -9,7 +9,7 @@ ghost use Rattle.lay_frame.specs.Readings.{frame_at, boxes_at};
 ghost use Rattle.lay_float.specs.Agreement.{Agree};
 ghost use Rattle.lay_float.specs.Readings.{option_at};
 ghost use Rattle.lay_margin.specs.Runs.{run_at, with_margin};
-ghost use Rattle.flow_steps.specs.Flow.{fresh as fresh_of};
+ghost use Rattle.lay_steps.specs.Flow.{fresh as fresh_of};
 ghost use Rattle.lay_flow.specs.WalkFits.{AllFit, WalkFits, before_content, before_children, before_child, before_flow, when_reached, when_starting, when_going_on};
 ghost use Rattle.lay_flow.specs.Readings.{apart_at, cleared_at, context_at, laid_with, without_boxes};
 ghost use Rattle.lay_flow.specs.steps.Flow.{float_of, left, laid_replaced as replaced_step, laid_context as context_step, laid_block as block_step, laid_of, in_flow, child_of, children_of, content_of};

@@ -15,7 +15,7 @@ use Rattle.layout_semantics.specs.InlineContent.{is_floated_at, has_line, holds_
 use Rattle.layout_semantics.proofs.Forest.{IsKid, both, ascends-each}
 use Rattle.layout_semantics.proofs.Pages.{forest}
 use Rattle.layout_laws.proofs.Levels.{All-implied}
-use Rattle.flow_steps.proofs.LeadEnds.{content-floats}
+use Rattle.lay_steps.proofs.LeadEnds.{content-floats}
 use Rattle.page_limits.specs.Bounds.{Bounds, grown, all_around, together, IsLevelIn}
 use Rattle.page_limits.specs.Rises.{rise_in_flow}
 use Rattle.page_limits.proofs.Levels.{level-wider, inside-grown}

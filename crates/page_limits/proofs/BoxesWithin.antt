@@ -12,7 +12,7 @@ use Rattle.layout_semantics.specs.Floats.{FloatBox}
 use Rattle.layout_semantics.specs.Flow.{raised}
 use Rattle.layout_semantics.specs.Rectangles.{Frame, content_top, border_width, border_height, placed_box, shifted_quad, shifted_box, shifted}
 use Rattle.lay_margin.specs.Runs.{no_run, collapse}
-use Rattle.flow_steps.specs.Flow.{Standing, at_top, below, Context, next_edge, context_height, block_height, joined_run}
+use Rattle.lay_steps.specs.Flow.{Standing, at_top, below, Context, next_edge, context_height, block_height, joined_run}
 use Rattle.lay_margin.specs.declared.runs.Run.{Run}
 use Rattle.layout_laws.proofs.Levels.{All-implied}
 use Rattle.page_limits.specs.Bounds.{Bounds, AreInside, grown, all_around, IsLevelIn, IsAsideIn, IsQuadIn, IsFloatIn, IsPlacedIn, IsPutIn}

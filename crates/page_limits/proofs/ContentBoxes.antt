@@ -21,8 +21,8 @@ use Rattle.layout_laws.proofs.Greatest.{All-from}
 use Rattle.layout_laws.proofs.Levels.{All-implied, sort_by}
 use Rattle.layout_laws.proofs.Members.{first_member}
 use Rattle.layout_laws.proofs.Rooms.{room-by-parent}
-use Rattle.flow_steps.proofs.LeadEnds.{sort-float}
-use Rattle.flow_steps.proofs.Sound.{IsSound}
+use Rattle.lay_steps.proofs.LeadEnds.{sort-float}
+use Rattle.lay_steps.proofs.Sound.{IsSound}
 use Rattle.page_limits.specs.Boxes.{IsPartOf, IsWhole}
 
 -- ---- the words of a text are parts of it

@@ -22,8 +22,8 @@ use Rattle.layout_laws.proofs.Levels.{IsFrom, All-implied}
 use Rattle.layout_laws.proofs.LeadLevels.{children-from}
 use Rattle.lay_line.proofs.Lays.{lines-are}
 use Rattle.lay_line.specs.steps.Laying.{lines_by_steps}
-use Rattle.flow_steps.specs.Flow.{Context, Step, Standing, at_top, below, inner_size, entry_boxes, line_tops, line_content, content_step, content_to, children, child}
-use Rattle.flow_steps.proofs.Sound.{IsSound, flow-sound}
+use Rattle.lay_steps.specs.Flow.{Context, Step, Standing, at_top, below, inner_size, entry_boxes, line_tops, line_content, content_step, content_to, children, child}
+use Rattle.lay_steps.proofs.Sound.{IsSound, flow-sound}
 use Rattle.page_limits.specs.Bounds.{Bounds, grown, IsLevelIn, IsBandIn, IsPlacedIn}
 use Rattle.page_limits.specs.Inline.{IsContentSmall, IsEntryIn, AreLinesIn}
 use Rattle.page_limits.specs.Boxes.{IsWhole, IsBoxSmall, IsIndependentIn}

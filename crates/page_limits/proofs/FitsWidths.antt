@@ -29,7 +29,7 @@ use Rattle.lay_line.specs.steps.Words.{strut_in, width_in}
 use Rattle.lay_line.proofs.Growth.{items_high}
 use Rattle.lay_line.proofs.Parts.{bare-measured}
 use Rattle.lay_length.proofs.SmallNumbers.{size-+, size-max}
-use Rattle.flow_steps.proofs.InOrder.{whole_no_inline}
+use Rattle.lay_steps.proofs.InOrder.{whole_no_inline}
 use Rattle.page_limits.specs.Boxes.{IsPartOf, IsWhole}
 use Rattle.page_limits.specs.Bounds.{all_around, IsBandIn, IsFloatIn, IsLevelIn}
 use Rattle.page_limits.proofs.ContentBoxes.{ItemIn, content-items}

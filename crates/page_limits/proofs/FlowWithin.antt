@@ -28,9 +28,9 @@ use Rattle.layout_semantics.specs.Clearance.{Base, hangs, stands}
 use Rattle.lay_margin.specs.declared.runs.Run.{Run}
 use Rattle.lay_margin.specs.Runs.{no_run, with_margin, collapse}
 use Rattle.lay_margin.specs.steps.Leads.{margin_below}
-use Rattle.flow_steps.specs.Forward.{Found, End, goes_on, solid, cleared, cleared_of}
-use Rattle.flow_steps.specs.Flow.{Standing, at_top, below, Context, Step, step, Laid, fresh, next_edge, children, frame_at, replaced_box, context_box, block_box, size_in, met, float_child, run_forward, reached_at, reached, opened, closed, laid_replaced, laid_context, laid_block, laid, own_run, standing_after, flow_child, child, is_at_top, context_height, block_height, joined_run}
-use Rattle.flow_steps.proofs.Sound.{IsSound, IsFlowKid}
+use Rattle.lay_steps.specs.Forward.{Found, End, goes_on, solid, cleared, cleared_of}
+use Rattle.lay_steps.specs.Flow.{Standing, at_top, below, Context, Step, step, Laid, fresh, next_edge, children, frame_at, replaced_box, context_box, block_box, size_in, met, float_child, run_forward, reached_at, reached, opened, closed, laid_replaced, laid_context, laid_block, laid, own_run, standing_after, flow_child, child, is_at_top, context_height, block_height, joined_run}
+use Rattle.lay_steps.proofs.Sound.{IsSound, IsFlowKid}
 use Rattle.page_limits.specs.Bounds.{Bounds, AreInside, grown, no_bounds, all_around, together, IsLevelIn, IsAsideIn, IsBandIn, IsExtentIn, IsFloatIn, IsPlacedIn, IsPutIn}
 use Rattle.page_limits.specs.Inline.{IsSmall}
 use Rattle.page_limits.specs.Boxes.{AreWidthsSmall, AreSidesSmall, IsWhole, IsBoxSmall, IsIndependentIn}

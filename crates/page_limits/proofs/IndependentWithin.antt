@@ -11,8 +11,8 @@ use Rattle.layout_semantics.specs.Order.{IsOnPage}
 use Rattle.layout_semantics.specs.Rectangles.{Frame, content_top, placed_box, border_width}
 use Rattle.layout_semantics.specs.Replaced.{replaced_size}
 use Rattle.layout_semantics.specs.Verticals.{verticals}
-use Rattle.flow_steps.specs.Flow.{Step, fresh, corner_frame, context_height, independent, content_of}
-use Rattle.flow_steps.proofs.Sound.{IsSound}
+use Rattle.lay_steps.specs.Flow.{Step, fresh, corner_frame, context_height, independent, content_of}
+use Rattle.lay_steps.proofs.Sound.{IsSound}
 use Rattle.page_limits.specs.Bounds.{Bounds, AreInside, grown, all_around, IsLevelIn, IsBandIn, IsPlacedIn}
 use Rattle.page_limits.specs.Inline.{IsSmall, IsContentSmall}
 use Rattle.page_limits.specs.Boxes.{AreWidthsSmall, AreSidesSmall, IsWhole, IsBoxSmall, IsIndependentIn}

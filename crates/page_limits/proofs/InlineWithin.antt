@@ -31,8 +31,8 @@ use Rattle.layout_semantics.specs.Order.{IsOnPage}
 use Rattle.layout_semantics.proofs.Pages.{forest, within-page}
 use Rattle.layout_laws.proofs.Greatest.{All-at}
 use Rattle.layout_laws.proofs.Levels.{IsFrom, All-implied, inner_boxes-from}
-use Rattle.flow_steps.specs.Flow.{content_to, inner_size}
-use Rattle.flow_steps.proofs.Sound.{IsSound}
+use Rattle.lay_steps.specs.Flow.{content_to, inner_size}
+use Rattle.lay_steps.proofs.Sound.{IsSound}
 use Rattle.page_limits.specs.Bounds.{Bounds, IsLevelIn}
 use Rattle.page_limits.specs.Boxes.{IsBoxSmall, IsWhole, IsIndependentIn, IsPartOf, middle_of, IsInlineBoxSmall}
 use Rattle.page_limits.specs.Inline.{IsSmall, IsAtomIn, IsFontSmall, IsInlineSmall, IsTextSmall, IsFloatSmall, IsItemBoxSmall, IsItemSmall, IsContentSmall}

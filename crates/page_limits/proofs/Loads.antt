@@ -12,8 +12,8 @@ use Rattle.layout_semantics.proofs.Orders.{document_order-is}
 use Rattle.layout_semantics.proofs.Pages.{forest}
 use Rattle.layout_laws.specs.Nested.{items_of_sort}
 use Rattle.layout_laws.proofs.Levels.{All-implied}
-use Rattle.flow_steps.proofs.LeadEnds.{content-floats}
-use Rattle.flow_steps.specs.Order.{next_of, each_before_next, is_before_to, is_before}
+use Rattle.lay_steps.proofs.LeadEnds.{content-floats}
+use Rattle.lay_steps.specs.Order.{next_of, each_before_next, is_before_to, is_before}
 use Rattle.page_limits.specs.Bounds.{Bounds, grown, all_around, together}
 use Rattle.page_limits.specs.Inline.{rise_of, float_rise, charge}
 use Rattle.page_limits.specs.Loads.{greatest_length, unit, weight, weights, load, size_of}

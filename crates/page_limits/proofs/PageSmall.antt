@@ -8,7 +8,7 @@ use Rattle.viz_base.specs.declared.worlds.World.{World}
 use Rattle.layout_semantics.specs.Order.{IsOnPage}
 use Rattle.layout_semantics.specs.Page.{page_rendering}
 use Rattle.lay_length.specs.Limits.{IsSmallPage}
-use Rattle.flow_steps.proofs.InOrder.{root-whole}
+use Rattle.lay_steps.proofs.InOrder.{root-whole}
 use Rattle.page_limits.specs.Bounds.{IsPlacedIn, all_around}
 use Rattle.page_limits.specs.Boxes.{ArePropertiesSmall, IsInlineBoxSmall, IsWhole}
 use Rattle.page_limits.proofs.WholePage.{page-within}

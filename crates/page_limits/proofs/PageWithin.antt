@@ -26,11 +26,11 @@ use Rattle.layout_laws.proofs.Greatest.{filter-passes}
 use Rattle.layout_laws.proofs.Levels.{IsFrom, All-implied, inner_boxes-from}
 use Rattle.layout_laws.proofs.Members.{any_in, any_from}
 use Rattle.layout_laws.proofs.LeadLevels.{children-from}
-use Rattle.flow_steps.specs.Flow.{content_of, inner_size}
-use Rattle.flow_steps.specs.Tables.{outside_of, laid_at, nothing_independent}
-use Rattle.flow_steps.proofs.Sound.{IsSound, inner_boxes-sound, flow-sound}
-use Rattle.flow_steps.proofs.InOrder.{box_before, whole_no_inline}
-use Rattle.flow_steps.proofs.Tables.{box-same}
+use Rattle.lay_steps.specs.Flow.{content_of, inner_size}
+use Rattle.lay_steps.specs.Tables.{outside_of, laid_at, nothing_independent}
+use Rattle.lay_steps.proofs.Sound.{IsSound, inner_boxes-sound, flow-sound}
+use Rattle.lay_steps.proofs.InOrder.{box_before, whole_no_inline}
+use Rattle.lay_steps.proofs.Tables.{box-same}
 use Rattle.page_limits.specs.Bounds.{Bounds, no_bounds}
 use Rattle.page_limits.specs.Inline.{IsContentSmall}
 use Rattle.page_limits.specs.Boxes.{IsWhole, IsBoxSmall, IsIndependentIn}

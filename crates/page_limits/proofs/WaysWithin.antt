@@ -24,10 +24,10 @@ use Rattle.layout_laws.proofs.Members.{first_member}
 use Rattle.lay_margin.specs.declared.runs.Run.{Run}
 use Rattle.lay_margin.specs.Runs.{with_margin, collapse}
 use Rattle.lay_margin.specs.steps.Leads.{enters, stops, inner_band, margin_above, margin_below}
-use Rattle.flow_steps.specs.Runs.{edge_at}
-use Rattle.flow_steps.specs.Forward.{End, goes_on, solid, cleared, Found, found, then_on, decided_found, closed_found, passed_box, kid_of, bottom_to_clear, clear_edge, is_to_clear, forward_to}
-use Rattle.flow_steps.proofs.LeadCases.{found-float, found-flow, closed-through, closed-stops, way_to, kids_way, inner_way, decision, entered, way-stops, way-enters}
-use Rattle.flow_steps.proofs.Sound.{IsFlowKid, enters-no-line, lead-sound}
+use Rattle.lay_steps.specs.Runs.{edge_at}
+use Rattle.lay_steps.specs.Forward.{End, goes_on, solid, cleared, Found, found, then_on, decided_found, closed_found, passed_box, kid_of, bottom_to_clear, clear_edge, is_to_clear, forward_to}
+use Rattle.lay_steps.proofs.LeadCases.{found-float, found-flow, closed-through, closed-stops, way_to, kids_way, inner_way, decision, entered, way-stops, way-enters}
+use Rattle.lay_steps.proofs.Sound.{IsFlowKid, enters-no-line, lead-sound}
 use Rattle.page_limits.specs.Bounds.{Bounds, AreInside, grown, no_bounds, all_around, together, IsLevelIn, IsBandIn, IsExtentIn, IsFloatIn, levels_of}
 use Rattle.page_limits.specs.Inline.{IsSmall}
 use Rattle.page_limits.specs.Boxes.{AreWidthsSmall, AreSidesSmall, IsWhole, IsBoxSmall}

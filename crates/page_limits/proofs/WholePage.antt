@@ -14,7 +14,7 @@ use Rattle.layout_semantics.specs.InlineContent.{text_of}
 use Rattle.layout_semantics.specs.Order.{roots, IsOnPage}
 use Rattle.layout_semantics.specs.Page.{page_rendering}
 use Rattle.layout_semantics.proofs.Pages.{root-alone}
-use Rattle.flow_steps.proofs.InOrder.{root_no_inline}
+use Rattle.lay_steps.proofs.InOrder.{root_no_inline}
 use Rattle.page_limits.specs.Bounds.{all_around, IsPlacedIn}
 use Rattle.page_limits.specs.Boxes.{IsWhole, ArePropertiesSmall, IsInlineBoxSmall}
 use Rattle.page_limits.specs.Raises.{AreRaisesSmall}

@@ -1,4 +1,4 @@
--- The steps of the flow with names for what each is made of; they are those of flow_steps.
+-- The steps of the flow with names for what each is made of; they are those of lay_steps.
 use Rattle.std.specs.Prelude.{ℕ, zero, suc, ◌-◌, ℤ, pos, ◌+ℤ◌, ◌-ℤ◌, Bool, true, false, ◌&&◌, ◌==◌, List, [], ◌∷◌, map, fold, length, replicate, set, slice_set, Option, Some, None, unwrap_or}
 use Rattle.std.specs.Int.{int_max, int_min}
 use Rattle.std.specs.Option.{option_or}
@@ -25,10 +25,10 @@ use Rattle.layout_semantics.specs.Clearance.{Base, hangs, stands}
 use Rattle.lay_margin.specs.declared.runs.Run.{Run}
 use Rattle.lay_margin.specs.Runs.{no_run, with_margin, collapse}
 use Rattle.lay_margin.specs.steps.Leads.{margin_below}
-use Rattle.flow_steps.specs.Flow as flow
-use Rattle.flow_steps.specs.Flow.{Standing, at_top, below, Context, fresh, Step, step, Laid, Met, met, ground_of, next_edge, is_at_top, joined_run, context_height, after_lines, children}
-use Rattle.flow_steps.specs.Forward.{Found, cleared_of, forward}
-use Rattle.flow_steps.specs.Tables.{laid_at, outside_of}
+use Rattle.lay_steps.specs.Flow as flow
+use Rattle.lay_steps.specs.Flow.{Standing, at_top, below, Context, fresh, Step, step, Laid, Met, met, ground_of, next_edge, is_at_top, joined_run, context_height, after_lines, children}
+use Rattle.lay_steps.specs.Forward.{Found, cleared_of, forward}
+use Rattle.lay_steps.specs.Tables.{laid_at, outside_of}
 
 -- how far the lowest of some floats reaches below a top; at least 0
 abbrev pub lowest_of : ℤ → List FloatBox → ℤ

@@ -11,7 +11,7 @@ use Rattle.lay_margin.specs.Readings.{floats_at}
 use Rattle.lay_margin.specs.Runs.{run_at}
 use Rattle.lay_margin.specs.steps.Leads.{enters, inner_band}
 use Rattle.lay_margin.proofs.Kids.{flow-kids}
-use Rattle.flow_steps.specs.Forward.{Found, kid_of}
+use Rattle.lay_steps.specs.Forward.{Found, kid_of}
 use Rattle.lay_flow.specs.Readings.{end_at}
 use Rattle.lay_flow.specs.Ways.{ground_at, way_at, kids_at_reading, WayFitsAt, KidsFitAt, KidFitsAt, AreTried}
 use Rattle.lay_flow.specs.declared.parts.End.TheVariants.{GoesOn}

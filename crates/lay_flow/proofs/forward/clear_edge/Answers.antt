@@ -8,8 +8,8 @@ use Rattle.lay_float.specs.Readings.{option_at}
 use Rattle.lay_line.proofs.Chains.{but_mem, start_but_mem, next_but_mem}
 use Rattle.lay_margin.specs.Readings.{floats_at as waiting_at}
 use Rattle.lay_margin.specs.Runs.{run_at}
-use Rattle.flow_steps.specs.Forward.{bottom_to_clear}
-use Rattle.flow_steps.specs.Runs.{edge_at}
+use Rattle.lay_steps.specs.Forward.{bottom_to_clear}
+use Rattle.lay_steps.specs.Runs.{edge_at}
 use Rattle.lay_flow.specs.Tries.{trial_of, floats_with}
 use Rattle.lay_flow.specs.WayFits.{WaitingFits, IsGroundLow, IsGoingLow}
 use Rattle.lay_flow.specs.Ways.{ground_at}

@@ -9,7 +9,7 @@ use Rattle.lay_margin.specs.Readings.{floats_at}
 use Rattle.lay_margin.specs.Runs.{run_at}
 use Rattle.lay_margin.specs.declared.runs.Run.{Run}
 use Rattle.layout_semantics.specs.Clearance.{Ground}
-use Rattle.flow_steps.specs.Forward.{decided, bottom_to_clear}
+use Rattle.lay_steps.specs.Forward.{decided, bottom_to_clear}
 use Rattle.lay_flow.specs.Ways.{ground_at}
 use Rattle.lay_flow.proofs.forward.decided.Goals as goal
 

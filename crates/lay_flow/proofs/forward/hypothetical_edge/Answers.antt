@@ -11,7 +11,7 @@ use Rattle.lay_flow.specs.Readings.{base_at}
 use Rattle.lay_flow.specs.WayFits.{IsLeadLow}
 use Rattle.lay_flow.proofs.LeadsLow.{lead-low}
 use Rattle.lay_flow.proofs.Sizes.{ends-fit}
-use Rattle.flow_steps.specs.Forward.{hypothetical_edge}
+use Rattle.lay_steps.specs.Forward.{hypothetical_edge}
 use Rattle.lay_flow.proofs.forward.hypothetical_edge.Goals as goal
 
 pub returns : goal.returns

@@ -9,7 +9,7 @@ use Rattle.lay_float.specs.Limits.{AreHalf}
 use Rattle.lay_line.proofs.Chains.{but_mem, start_but_mem, next_but_mem}
 use Rattle.lay_margin.specs.Readings.{floats_at as waiting_at, waiting_at as waiting_in}
 use Rattle.lay_margin.specs.Runs.{run_at}
-use Rattle.flow_steps.specs.Forward.{hypothetical_edge, bottom_to_clear, is_above}
+use Rattle.lay_steps.specs.Forward.{hypothetical_edge, bottom_to_clear, is_above}
 use Rattle.lay_float.specs.TrialReadings.{trial_at}
 use Rattle.lay_float.specs.declared.trial.Trial.{Trial}
 use Rattle.lay_flow.specs.Tries.{trial_of, floats_with}

@@ -5,7 +5,7 @@ use Rattle.viz_calc.specs.Renderings.{band_at}
 use Rattle.layout_semantics.specs.FlowBoxes.{content_from}
 use Rattle.layout_semantics.specs.Rectangles.{content_top}
 use Rattle.page_limits.specs.Bounds.{IsQuadIn}
-use Rattle.flow_steps.specs.Flow.{fresh}
+use Rattle.lay_steps.specs.Flow.{fresh}
 use Rattle.lay_frame.specs.Readings.{frame_at}
 use Rattle.lay_flow.specs.IndependentFits.{RootFits}
 use Rattle.lay_flow.specs.Fits.{IsNear, near}

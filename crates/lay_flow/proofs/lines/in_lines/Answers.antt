@@ -6,7 +6,7 @@ use Rattle.lay_float.specs.Readings.{floats_at, option_at}
 use Rattle.layout_laws.specs.PlacedFloats.{ArePlacedAfter}
 use Rattle.lay_float.proofs.Agreeing.{placed-later}
 use Rattle.lay_line.specs.Readings.{entries_at}
-use Rattle.flow_steps.specs.Flow.{line_tops}
+use Rattle.lay_steps.specs.Flow.{line_tops}
 use Rattle.lay_line.specs.Lining.{laid_at}
 use Rattle.lay_flow.specs.Readings.{apart_at, context_at, standing_at}
 use Rattle.layout_semantics.specs.Lines.{LineList}

@@ -7,7 +7,7 @@ use Rattle.lay_flow.specs.Fits.{IsEntryLow}
 use Rattle.layout_semantics.specs.Flow.{raised}
 use Rattle.lay_float.specs.Readings.{option_at}
 use Rattle.lay_line.specs.Readings.{entries_at}
-use Rattle.flow_steps.specs.Flow.{line_tops}
+use Rattle.lay_steps.specs.Flow.{line_tops}
 use Rattle.lay_flow.proofs.lines.raised_by.Given as goal
 
 abbrev pub invariant-loop-entry : goal.invariant-loop-entry

@@ -1,7 +1,7 @@
 use Rattle.std.proofs.Common.{◌≡◌, ℕ, ℤ, suc, ◌+◌, ap, sym, subst, ◌∙◌, arith}
 use Rattle.viz_calc.specs.World.{Reading}
 use Rattle.layout_semantics.specs.FlowBoxes.{room_to}
-use Rattle.flow_steps.specs.Tables.{laid_at}
+use Rattle.lay_steps.specs.Tables.{laid_at}
 use Rattle.lay_flow.specs.IndependentFits.{IndependentFits, BoxAddedFits, RoomFits}
 use Rattle.lay_flow.specs.Readings.{apart_at, table_at}
 use Rattle.lay_flow.proofs.Givens.{first, more}

@@ -1,6 +1,6 @@
 use Rattle.std.proofs.Common.{◌≡◌, ◌<◌, ℕ, false, List, length, sym, subst, arith}
 use Rattle.std.specs.List.{AllByRecursion}
-use Rattle.flow_steps.specs.Tables.{outside_of}
+use Rattle.lay_steps.specs.Tables.{outside_of}
 use Rattle.lay_preferred.proofs.Founds.{found-closed}
 use Rattle.viz_base.specs.Trees.{is_inline}
 use Rattle.viz_calc.specs.World.{Reading}

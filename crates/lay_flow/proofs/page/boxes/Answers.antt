@@ -8,7 +8,7 @@ use Rattle.lay_preferred.proofs.Founds.{found-later}
 use Rattle.std.specs.Prelude.{Option, ◌*◌, pos, ℤ}
 use Rattle.viz_calc.specs.World.{Reading}
 use Rattle.layout_semantics.specs.Flow.{Independent}
-use Rattle.flow_steps.specs.Tables.{laid_at}
+use Rattle.lay_steps.specs.Tables.{laid_at}
 use Rattle.lay_flow.specs.IndependentFits.{IndependentFits, PageComesFit}
 use Rattle.lay_flow.specs.Readings.{apart_at, table_at}
 use Rattle.lay_flow.proofs.Givens.{first, more, more_at}

@@ -4,7 +4,7 @@ use Rattle.viz_base.specs.declared.renderings.Rendering.{Rendering}
 use Rattle.viz_calc.specs.Renderings.{placed_at}
 use Rattle.lay_frame.specs.Readings.{boxes_at}
 use Rattle.viz_calc.proofs.Blamed.{ButMem-given}
-use Rattle.flow_steps.proofs.Tables.{page-same}
+use Rattle.lay_steps.proofs.Tables.{page-same}
 use Rattle.lay_flow.proofs.PageLimits.{within-limits-fits}
 use Rattle.lay_flow.proofs.page.render.Goals as goal
 

@@ -7,8 +7,8 @@ use Rattle.lay_float.specs.Readings.{boxes_at, option_at}
 use Rattle.lay_line.proofs.Chains.{start_but_mem}
 use Rattle.lay_margin.specs.Readings.{floats_at, passed_by}
 use Rattle.lay_margin.specs.Runs.{run_at}
-use Rattle.flow_steps.specs.Flow.{size_in}
-use Rattle.flow_steps.specs.Forward.{way}
+use Rattle.lay_steps.specs.Flow.{size_in}
+use Rattle.lay_steps.specs.Forward.{way}
 use Rattle.lay_flow.specs.Readings.{apart_at, base_at, context_at}
 use Rattle.lay_flow.specs.WayFits.{WayFits, ForwardFits}
 use Rattle.lay_flow.specs.Ways.{way_at}

@@ -8,7 +8,7 @@ use Rattle.layout_semantics.specs.Leads.{none_passed}
 use Rattle.layout_semantics.specs.Clearance.{hangs}
 use Rattle.lay_line.proofs.Chains.{but_mem, start_but_mem, next_but_mem}
 use Rattle.lay_margin.specs.Runs.{run_at}
-use Rattle.flow_steps.specs.Forward.{Found, cleared_of}
+use Rattle.lay_steps.specs.Forward.{Found, cleared_of}
 use Rattle.lay_flow.specs.Low.{IsRunLow}
 use Rattle.lay_flow.specs.Readings.{apart_at, context_at, standing_at, cleared_at, found_at}
 use Rattle.lay_flow.specs.WayFits.{ForwardFits, FromFits, StandingFits, ReachFits}

@@ -10,7 +10,7 @@ use Rattle.layout_semantics.specs.InlineContent.{has_line, holds_inline, is_floa
 use Rattle.layout_semantics.specs.Rectangles.{Frame, content_top}
 use Rattle.lay_frame.specs.Readings.{boxes_at, frame_at}
 use Rattle.lay_margin.proofs.Kids.{flow-kids}
-use Rattle.flow_steps.specs.Flow.{Context, Met, Step, fresh, met}
+use Rattle.lay_steps.specs.Flow.{Context, Met, Step, fresh, met}
 use Rattle.lay_margin.specs.Runs.{run_at}
 use Rattle.lay_flow.specs.Fits.{IsNear, IsReplacedFit}
 use Rattle.lay_flow.specs.Low.{IsContextLow, IsFrameLow, IsLevelLow, IsRunLow}

@@ -7,7 +7,7 @@ use Rattle.layout_semantics.specs.Floats.{floating}
 use Rattle.lay_float.specs.Readings.{extent_at, floats_at, option_at}
 use Rattle.lay_line.proofs.Chains.{start_but_mem, next_but_mem, but_mem}
 use Rattle.page_limits.specs.Bounds.{IsExtentIn}
-use Rattle.flow_steps.specs.Flow.{next_edge}
+use Rattle.lay_steps.specs.Flow.{next_edge}
 use Rattle.lay_flow.specs.Low.{reach, IsIndependentLow, IsBandLow, IsContextLow}
 use Rattle.lay_flow.specs.Fits.{IsNear, IsSpotNear}
 use Rattle.lay_flow.specs.Readings.{apart_at, context_at}
