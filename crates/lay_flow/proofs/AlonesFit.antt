@@ -6,7 +6,6 @@ use Rattle.viz_base.specs.declared.worlds.World.{World}
 use Rattle.layout_semantics.specs.Flow.{Independent}
 use Rattle.layout_semantics.specs.FlowBoxes.{is_replaced_at, flow_children, content_from, room}
 use Rattle.layout_semantics.specs.Rectangles.{Frame, content_top}
-use Rattle.lay_steps.specs.Flow.{corner_frame, fresh}
 use Rattle.lay_steps.proofs.Sound.{IsSound}
 use Rattle.page_limits.specs.Bounds.{Bounds, AreInside, all_around, grown, IsBandIn, IsLevelIn, IsQuadIn}
 use Rattle.page_limits.specs.Boxes.{AreSidesSmall, AreWidthsSmall, IsIndependentIn, IsWhole}
@@ -20,8 +19,8 @@ use Rattle.lay_flow.specs.Fits.{near}
 use Rattle.lay_flow.specs.Low.{IsContextLow, IsFrameLow}
 use Rattle.lay_flow.proofs.PageFits.{IsBoxFit, IsPageFit}
 use Rattle.lay_flow.specs.WalkFits.{WalkFits, before_content, inner_end}
-use Rattle.lay_flow.specs.steps.Flow.{corner_of, root_of, context_independent}
-use Rattle.lay_flow.proofs.IndependentBoxes.{independent-context}
+use Rattle.lay_steps.specs.Flow.{fresh, corner_of, root_of, context_independent, content_of}
+use Rattle.lay_steps.proofs.StepCases.{independent-context}
 use Rattle.lay_flow.proofs.TablesWithin.{AreBounded, fine, boxes-small, lines-small, turned, rise_by, rise-far, independent-known}
 use Rattle.lay_flow.proofs.WalkWithin.{ContentIn}
 use Rattle.lay_flow.proofs.WalkPlaces.{walk-fits, content-end}
@@ -32,7 +31,7 @@ module _ (tree : BoxTree) (w : World) (page : IsPageFit tree w) (apart : ℕ →
   fit = page.each k i.page q
 
   abbrev f : Frame
-  f = corner_frame tree w k (room tree w k)
+  f = corner_of tree w k (room tree w k)
 
   abbrev top : ℤ
   top = content_top f
@@ -46,12 +45,15 @@ module _ (tree : BoxTree) (w : World) (page : IsPageFit tree w) (apart : ℕ →
   begin = all_around (16 * greatest_length)
 
   x : AreWidthsSmall (2 ^ 42) f.x
+  unfolding corner_of
   x = (boxes-small tree w page k i.page q).widths
 
   v : AreSidesSmall (2 ^ 42) f.v
+  unfolding corner_of
   v = (boxes-small tree w page k i.page q).sides
 
   corner : IsLevelIn (all_around greatest_length) f.corner.y
+  unfolding corner_of
   corner = let m = v.margin_top in record { top = omega (arith, ints, m); bottom = omega (arith, ints, m) }
 
   top-is : IsLevelIn begin top
@@ -73,6 +75,7 @@ module _ (tree : BoxTree) (w : World) (page : IsPageFit tree w) (apart : ℕ →
       record { up = omega (arith, up); down = omega (arith, down); aside = omega (arith, aside) }
 
   begins : ContentIn tree w a.own turned_by greatest_length (2 ^ 42) (fine tree w page) (boxes-small tree w page) apart a.known k (content_from (pos 0) f.x) top (fresh top)
+  unfolding corner_of
   begins = record {
     b = begin;
     left = pos 0;
@@ -108,18 +111,16 @@ module _ (tree : BoxTree) (w : World) (page : IsPageFit tree w) (apart : ℕ →
       record { x = fit.shape.widths; v = fit.shape.sides; aside = fit.shape.widths.margin_left; top = record { top = omega (arith, ints, m); bottom = omega (arith, ints, m) } }
 
   margin : is_replaced_at tree k ≡ false
-      → IsQuadIn near (root_of tree w k (corner_of tree w k (room tree w k)) (own_end tree w apart k (corner_of tree w k (room tree w k)))).margin
+      → IsQuadIn near (root_of tree w k f (own_end tree w apart k f)).margin
   unfolding context_independent
   margin e =
       let own = rise_by tree w page apart a k in
       let wide = room tree w k in
-      let f = corner_of tree w k wide in
-      let known = subst (IsIndependentIn own greatest_length) (sym (independent-context tree w apart k wide e)) (independent-known tree w page apart a k l wide i q) in
+      let known = subst (IsIndependentIn own greatest_length) (independent-context tree w (content_of tree w apart) k wide e) (independent-known tree w page apart a k l wide i q) in
       quad-wider own near (root_of tree w k f (own_end tree w apart k f)).margin
       (inside-more own (all_around (2 ^ 72)) near (rise-far tree w page apart a k l) (record { up = omega arith; down = omega arith; aside = omega arith })) (known.boxes.0).margin
 
   pub independent-fits : IndependentFits tree w apart k (room tree w k)
-  unfolding corner_of
   independent-fits = record {
     shape = fit.shape;
     frame = frame-low;

@@ -21,7 +21,7 @@ use Rattle.page_limits.specs.Inline.{IsSmall}
 use Rattle.lay_steps.specs.Flow.{Standing, at_top, below, Context, next_edge, block_height}
 use Rattle.lay_flow.specs.Low.{reach, IsLevelLow, IsRunLow, IsStandingLow, IsContextLow, IsFrameLow}
 use Rattle.lay_flow.specs.Fits.{IsNear, IsHeightFit, near}
-use Rattle.lay_flow.specs.steps.Flow.{tall_of}
+use Rattle.lay_steps.specs.Flow.{context_height}
 use Rattle.lay_flow.proofs.Sizes.{wider, fit, plus, less, zero-small, clamped-small, level, IsQuadSmall, quad-fits, size-quad, run-small}
 
 -- ---- where boxes stand
@@ -41,8 +41,8 @@ next-edge-near s l = wider (2 ^ 92) (2 ^ 95) (next_edge s) (next-edge-small s l)
 
 -- ---- heights
 
-pub tall-small : (m k : ℕ) (top : ℤ) (end : Context) → IsSmall m top → IsContextLow end → 2 ^ 92 + m ≤ k → IsSmall k (tall_of top end)
-unfolding tall_of
+pub tall-small : (m k : ℕ) (top : ℤ) (end : Context) → IsSmall m top → IsContextLow end → 2 ^ 92 + m ≤ k → IsSmall k (context_height top end)
+unfolding context_height
 tall-small m k top end t low l =
     greatest_from-any (IsSmall k) (pos 0) (map (λ y. y -ℤ top) (next_edge end.standing ∷ map (λ (f : FloatBox). f.box.bottom) end.floats)) (zero-small k) (
       less (2 ^ 92) m k (next_edge end.standing) top (next-edge-small end.standing low.standing) t l,

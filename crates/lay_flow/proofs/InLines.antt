@@ -21,7 +21,7 @@ use Rattle.lay_line.specs.Contexts.{inner_at, table_at}
 use Rattle.lay_line.specs.Readings.{entry_at, entries_at}
 use Rattle.lay_margin.specs.Runs.{no_run}
 use Rattle.lay_steps.specs.Flow.{Standing, below, Context, line_tops, after_lines}
-use Rattle.lay_flow.specs.steps.Flow.{inner_of, entry_of, inner_table, filled_table, lines_of, in_lines}
+use Rattle.lay_steps.specs.Flow.{inner_size, entry_of, inner_table, filled_table, lines_of, in_lines}
 
 -- with one place set
 map-slice_set : {A B : Type 0} (f : A → B) (xs : List A) (i : ℕ) (x : A) → map f (slice_set xs i x) ≡ slice_set (map f xs) i (f x)
@@ -62,15 +62,15 @@ one-number go xs k d s next lt step = sym step ∙ sym (at_drop_more (λ l. go l
 
 module _ (tree : BoxTree) (w : World) (apart : ℕ → Independent) where
   fold-entries : (ks : List ℕ) (table : List (Option (Inner ℤ)))
-      → filled_table tree w apart table ks ≡ fold (λ table (entry : ℕ × Inner ℤ). slice_set table entry.0 (Some entry.1)) table (map (λ k. (k, inner_of tree w apart k)) ks)
+      → filled_table tree w apart table ks ≡ fold (λ table (entry : ℕ × Inner ℤ). slice_set table entry.0 (Some entry.1)) table (map (λ k. (k, inner_size tree w apart k)) ks)
   fold-entries [] table = refl
-  fold-entries (k ∷ ks) table = fold-entries ks (slice_set table k (Some (inner_of tree w apart k)))
+  fold-entries (k ∷ ks) table = fold-entries ks (slice_set table k (Some (inner_size tree w apart k)))
 
   no-entries : {N : Type 0} (at : N → Reading → ℤ) (e : Reading) (n : ℕ) → table_at at (replicate n None) e ≡ replicate n None
   no-entries at e zero = refl
   no-entries at e (suc n) = ap (λ t. None ∷ t) (no-entries at e n)
 
-  pub room-of : (n : ℕ) (ks : List ℕ) → room_for n ks ≡ room_for {A = ℕ × Inner ℤ} n (map (λ k. (k, inner_of tree w apart k)) ks)
+  pub room-of : (n : ℕ) (ks : List ℕ) → room_for n ks ≡ room_for {A = ℕ × Inner ℤ} n (map (λ k. (k, inner_size tree w apart k)) ks)
   room-of n [] = refl
   room-of n (k ∷ ks) = refl
 
@@ -85,7 +85,7 @@ module _ (tree : BoxTree) (w : World) (apart : ℕ → Independent) where
       ∙ (ap (λ t. filled_table tree w apart t boxes) (no-entries at e room)
       ∙ (ap (filled_table tree w apart (replicate room None)) q
       ∙ (fold-entries ks (replicate room None)
-      ∙ ap (λ n. fold (λ table (entry : ℕ × Inner ℤ). slice_set table entry.0 (Some entry.1)) (replicate n None) (map (λ k. (k, inner_of tree w apart k)) ks))
+      ∙ ap (λ n. fold (λ table (entry : ℕ × Inner ℤ). slice_set table entry.0 (Some entry.1)) (replicate n None) (map (λ k. (k, inner_size tree w apart k)) ks))
       (room-of (length tree.boxes) ks))))
 
   -- ---- the lines and what they leave

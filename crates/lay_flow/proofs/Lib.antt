@@ -1,12 +1,7 @@
 pub mod Ways
-pub mod Same
 pub mod InLines
 pub mod IndependentBoxes
-pub mod TableSteps
 pub mod TableFacts
-pub mod Reaches
-pub mod ContentCases
-pub mod WalkSteps
 pub mod Sizes
 pub mod Framed
 pub mod Spots

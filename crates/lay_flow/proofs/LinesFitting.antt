@@ -25,7 +25,7 @@ use Rattle.page_limits.proofs.FitsFonts.{IsBoxed}
 use Rattle.page_limits.proofs.FitsLines.{IsInnerLow}
 use Rattle.page_limits.proofs.FitsWidths.{lines-fit-here}
 use Rattle.lay_flow.specs.WalkFits.{inline_context}
-use Rattle.lay_flow.specs.steps.Flow.{inner_of, inner_table}
+use Rattle.lay_steps.specs.Flow.{inner_size, inner_table}
 
 -- ---- what holds of each entry of a table
 
@@ -62,8 +62,8 @@ module _ (tree : BoxTree) (w : World) (apart : ℕ → Independent) (small : (j 
   level-size : (y : ℤ) → IsLevelIn (all_around (2 ^ 72)) y → unsigned_abs y ≤ 2 ^ 72
   level-size y l = let top = l.top in let bottom = l.bottom in omega (arith, ints, top, bottom)
 
-  inner-low : (k : ℕ) → IsInnerLow (inner_of tree w apart k)
-  unfolding inner_of
+  inner-low : (k : ℕ) → IsInnerLow (inner_size tree w apart k)
+  unfolding inner_size
   inner-low k = by (is_floated_at tree k || is_replaced_at tree k || own tree k (λ (s : Style). s.clips) false) (apart k).baseline (small k).baseline
     where
       sized : ℤ → Inner ℤ
@@ -87,7 +87,7 @@ module _ (tree : BoxTree) (w : World) (apart : ℕ → Independent) (small : (j 
 
   inners-low : (b at : ℕ) (i : Inner ℤ) → slice_index_or (inner_table tree w apart b) at None ≡ Some i → IsInnerLow i
   unfolding inner_table
-  inners-low b at i e = subst IsClampedLow e (table-each IsClampedLow tt (inner_of tree w apart) inner-low (length tree.boxes) (inner_boxes tree b) at)
+  inners-low b at i e = subst IsClampedLow e (table-each IsClampedLow tt (inner_size tree w apart) inner-low (length tree.boxes) (inner_boxes tree b) at)
 
 -- ---- the lines of a container
 

@@ -10,7 +10,7 @@ use Rattle.layout_semantics.specs.Flow.{Independent}
 use Rattle.lay_line.specs.LinesFit.{LinesFit}
 use Rattle.lay_steps.specs.Flow.{Context}
 use Rattle.lay_flow.specs.WalkFits.{inline_context}
-use Rattle.lay_flow.specs.steps.Flow.{inner_table}
+use Rattle.lay_steps.specs.Flow.{inner_table}
 
 pub lines-moved : (tree : BoxTree) (w : World) (apart : ℕ → Independent) (b : ℕ) (cb : Band ℤ) (top : ℤ) (s : Context) (inner : List (Option (Inner ℤ))) (least : ℤ) (floats : List FloatBox)
     → inner ≡ inner_table tree w apart b → least ≡ unwrap_or s.least top → floats ≡ s.floats

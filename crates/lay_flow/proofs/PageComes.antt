@@ -13,7 +13,7 @@ use Rattle.page_limits.proofs.PageWithin.{IsApart, outside-good}
 use Rattle.page_limits.proofs.WholePage.{root-room}
 use Rattle.lay_flow.specs.IndependentFits.{IndependentFits, BoxAddedFits, BoxesAddedFit, ContainerFits, PageComesFit}
 use Rattle.lay_flow.proofs.PageFits.{IsPageFit}
-use Rattle.lay_flow.specs.steps.Flow.{with_box, with_boxes, with_container, table_to}
+use Rattle.lay_steps.specs.Tables.{with_box, with_boxes, with_container, table_to}
 use Rattle.lay_flow.proofs.AlonesFit.{independent-fits}
 use Rattle.lay_flow.proofs.PageRooms.{rooms-fit}
 use Rattle.lay_flow.proofs.TablesWithin.{IsBounded, boxes-small, fine, lines-small, one-bounded, none-bounded}

@@ -33,7 +33,7 @@ use Rattle.page_limits.proofs.BoxesWithin.{none-low}
 use Rattle.page_limits.proofs.FlowWithin.{IsContextIn, IsStandingIn}
 use Rattle.lay_flow.specs.Low.{IsBandLow, IsClearedLow, IsRunLow, IsStandingLow}
 use Rattle.lay_flow.specs.WayFits.{ForwardFits, FromFits, StandingFits, ReachFits}
-use Rattle.lay_flow.specs.steps.Flow.{reached_from, reached_of}
+use Rattle.lay_steps.specs.Flow.{reached_from, reached_of}
 use Rattle.lay_flow.proofs.WaysFit.{ways-fit}
 
 module _ (tree : BoxTree) (w : World) (own turned : ℕ → Bounds) (s t : ℕ) (fine : 8 * t ≤ s)

@@ -1,49 +1,17 @@
--- What stands outside the flow of a box is in the tree; and tables at a reading.
+-- Tables of boxes outside the flow, at a reading.
 use Rattle.std.proofs.Common.{◌≡◌, ℕ, zero, suc, ◌<◌, ◌+◌, ◌-◌, ◌*◌, ℤ, pos, Bool, true, false, List, ◌∷◌, filter, length, set, replicate, Option, Some, None, refl, ap, ◌∙◌, arith}
-use Rattle.std.specs.List.{AllByRecursion}
 use Rattle.std.proofs.lemmas.List.{map-set}
 use Rattle.viz_base.specs.declared.trees.BoxTree.{BoxTree}
 use Rattle.viz_base.specs.declared.worlds.World.{World}
 use Rattle.viz_calc.specs.World.{Reading}
 use Rattle.layout_semantics.specs.Flow.{Independent}
-use Rattle.layout_semantics.specs.FlowBoxes.{flow_children, room_to}
-use Rattle.layout_semantics.specs.InlineContent.{is_floated_at, has_line, inner_boxes}
-use Rattle.layout_semantics.proofs.Pages.{forest}
-use Rattle.layout_laws.proofs.Levels.{IsFrom, All-implied, inner_boxes-from}
-use Rattle.layout_laws.proofs.LeadLevels.{children-from}
+use Rattle.layout_semantics.specs.FlowBoxes.{room_to}
 use Rattle.lay_frame.specs.Readings.{boxes_at}
-use Rattle.lay_steps.specs.Tables.{laid_at, outside_of, page_boxes}
-use Rattle.page_limits.proofs.Levels.{All-filter}
 use Rattle.lay_flow.specs.declared.parts.Independent.{Independent as IndependentBox}
 use Rattle.lay_flow.specs.Readings.{independent_at, apart_at, table_at}
-use Rattle.lay_flow.specs.steps.Flow.{independent_of, with_box, with_container, table_to}
-use Rattle.lay_flow.proofs.TableSteps.{root-boxes}
-
--- ---- boxes of the tree
-
-pub outside-within : (tree : BoxTree) (b : ℕ) → AllByRecursion (λ (k : ℕ). k < length tree.boxes) (outside_of tree b)
-outside-within tree b = All-implied (IsFrom tree.boxes (suc b)) (λ (k : ℕ). k < length tree.boxes) (outside_of tree b) (λ k f. f.within) (by (has_line tree b))
-  where
-    by : (l : Bool) → AllByRecursion (IsFrom tree.boxes (suc b)) (elim l as (λ _. List ℕ) [ true ↦ inner_boxes tree b | false ↦ filter (is_floated_at tree) (flow_children tree b) ])
-    by true = inner_boxes-from tree b (forest tree)
-    by false = All-filter (IsFrom tree.boxes (suc b)) (is_floated_at tree) (flow_children tree b) (children-from tree b)
-
--- ---- the table of more boxes
-
--- after the box before the last so many
-pub next-table : (tree : BoxTree) (w : World) (before after : List (Option Independent)) (n b : ℕ) → b ≡ length tree.boxes - suc n → before ≡ table_to tree w n
-    → after ≡ with_container tree w before b → after ≡ table_to tree w (n + 1)
-unfolding table_to
-next-table tree w before after n b last is added =
-    let next : suc n ≡ n + 1 = omega arith in
-    added
-    ∙ ap (λ (t : List (Option Independent)). with_container tree w t b) is
-    ∙ ap (with_container tree w (table_to tree w n)) last
-    ∙ ap (table_to tree w) next
-
-pub first-table : (tree : BoxTree) (w : World) → replicate (length tree.boxes) None ≡ table_to tree w 0
-unfolding table_to
-first-table tree w = refl
+use Rattle.lay_steps.specs.Flow.{independent_of}
+use Rattle.lay_steps.specs.Tables.{laid_at, with_box, table_to, page_boxes}
+use Rattle.lay_steps.proofs.Tables.{root-boxes}
 
 -- ---- tables at a reading
 

@@ -26,8 +26,8 @@ use Rattle.page_limits.proofs.PageWithin.{base_of, turned_of}
 use Rattle.page_limits.proofs.TermsWithin.{box-small}
 use Rattle.page_limits.proofs.WholePage.{few}
 use Rattle.lay_flow.proofs.PageFits.{IsPageFit}
-use Rattle.lay_flow.specs.steps.Flow.{independent_of, with_box}
-use Rattle.lay_flow.proofs.TableSteps.{independent-same}
+use Rattle.lay_steps.specs.Flow.{independent_of}
+use Rattle.lay_steps.specs.Tables.{with_box}
 
 none-at : (n k : ℕ) → laid_at (replicate n None) k ≡ nothing_independent
 none-at zero k = refl
@@ -44,9 +44,9 @@ module _ (tree : BoxTree) (w : World) (page : IsPageFit tree w) where
   pub boxes-small : (k : ℕ) → IsOnPage tree.boxes k → IsWhole tree k → IsBoxSmall tree w (2 ^ 42) k
   boxes-small k p q = box-small tree w (2 ^ 42) k (page.boxes k p q)
 
-  pub lines-small : (own : ℕ → Bounds) (apart : ℕ → Independent) (independent_in : (k : ℕ) → IsIndependentIn (own k) greatest_length (apart k)) (n k : ℕ) (left wide : ℤ) → IsSound tree w k wide → has_line tree k ≡ true
-      → IsContentSmall (line_context tree w own (turned_of tree w apart own) greatest_length (2 ^ 42) fine boxes-small apart independent_in n k left wide) own (turned_of tree w apart own) greatest_length
-  lines-small own apart independent_in n k left wide i e = content-small tree w (2 ^ 42) fine boxes-small page.lines page.raises.raises page.raises.each page.raises.all own apart independent_in n k left wide i
+  pub lines-small : (own : ℕ → Bounds) (apart : ℕ → Independent) (independent_in : (k : ℕ) → IsIndependentIn (own k) greatest_length (apart k)) (k : ℕ) (left wide : ℤ) → IsSound tree w k wide → has_line tree k ≡ true
+      → IsContentSmall (line_context tree w own (turned_of tree w apart own) greatest_length (2 ^ 42) fine boxes-small apart independent_in k left wide) own (turned_of tree w apart own) greatest_length
+  lines-small own apart independent_in k left wide i e = content-small tree w (2 ^ 42) fine boxes-small page.lines page.raises.raises page.raises.each page.raises.all own apart independent_in k left wide i
 
   turned-few : (apart : ℕ → Independent) (own : ℕ → Bounds) → IsFew tree own → IsFew tree (turned_of tree w apart own)
   turned-few apart own f k l = let a = f k l in let n = turn (unsigned_abs (int_min (base_of tree w apart k) (pos 0))) (own k).up in omega (arith, a, n)
@@ -80,8 +80,8 @@ module _ (tree : BoxTree) (w : World) (page : IsPageFit tree w) where
         record { up = omega (arith, here, order, all); down = omega (arith, here, order, all); aside = omega (arith, here, order, all) }
 
     pub independent-known : (wide : ℤ) → IsSound tree w k wide → IsWhole tree k → IsIndependentIn (rise_by apart a k) greatest_length (independent_of tree w apart k wide)
-    independent-known wide i q = subst (IsIndependentIn (rise_by apart a k) greatest_length) (sym (independent-same tree w apart k wide))
-        (independent-within tree w a.own (turned apart a) greatest_length (2 ^ 42) fine boxes-small apart a.known (lines-small a.own apart a.known) k wide i q l)
+    independent-known wide i q =
+        independent-within tree w a.own (turned apart a) greatest_length (2 ^ 42) fine boxes-small apart a.known (lines-small a.own apart a.known) k wide i q l
 
     abbrev own_after : ℕ → Bounds
     own_after j = elim (j == k) as (λ _. Bounds) [ true ↦ rise_by apart a k | false ↦ a.own j ]

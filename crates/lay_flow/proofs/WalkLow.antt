@@ -1,5 +1,5 @@
 -- Numbers of the walk that are small are low, and the cleared box that is ahead stays where it is.
-use Rattle.std.proofs.Common.{◌≡◌, ℕ, ◌<◌, ◌≤◌, ◌^◌, ℤ, Bool, true, false, List, [], ◌∷◌, length, refl, subst, arith}
+use Rattle.std.proofs.Common.{◌≡◌, ℕ, ◌<◌, ◌≤◌, ◌^◌, ℤ, Bool, true, false, List, [], ◌∷◌, length, refl, subst, arith, sym}
 use Rattle.std.specs.Option.{option_to_list}
 use Rattle.viz_base.specs.declared.layouts.Band.{Band}
 use Rattle.viz_base.specs.declared.layouts.Widths.{Widths}
@@ -16,8 +16,8 @@ use Rattle.page_limits.proofs.BoxesWithin.{boxes-wider}
 use Rattle.page_limits.proofs.Levels.{level-wider}
 use Rattle.page_limits.proofs.LinesWithin.{levels-wider}
 use Rattle.lay_flow.specs.Low.{reach, IsIndependentLow, IsClearedLow}
-use Rattle.lay_flow.specs.steps.Flow.{Ending, child_of, children_of, content_by, content_of, float_of, in_flow, in_lines, standing_after}
-use Rattle.lay_flow.proofs.Same.{content-named}
+use Rattle.lay_steps.specs.Flow.{Ending, child, child_of, children_of, content_step, content_of, float_of, flow_child, in_flow, in_lines, standing_after}
+use Rattle.lay_steps.proofs.Levels.{content-is}
 
 -- ---- numbers that are small are low
 
@@ -80,7 +80,7 @@ module _ (tree : BoxTree) (w : World) (apart : ℕ → Independent) where
       by true false (below edge run stuck) t e h = rw (t, e) tt
 
   pub child-ahead : (cb : Band ℤ) (top : ℤ) (s : Context) (k : ℕ) → IsAheadLow s.standing → IsAheadLow (child_of tree w apart cb top s k).context.standing
-  unfolding child_of float_of in_flow
+  unfolding child float_of flow_child
   child-ahead cb top s k h = by (is_floated_at tree k)
     where
       by : (f : Bool) → IsAheadLow (elim f as (λ _. Step) [ true ↦ float_of tree w apart cb top s k | false ↦ in_flow tree w apart cb s k ]).context.standing
@@ -93,8 +93,8 @@ module _ (tree : BoxTree) (w : World) (apart : ℕ → Independent) where
 
   -- behind all that is in a box
   pub content-ahead : (k : ℕ) (cb : Band ℤ) (top : ℤ) (s : Context) → k < length tree.boxes → IsAheadLow s.standing → IsAheadLow (content_of tree w apart k cb top s).context.standing
-  unfolding content_by in_lines
-  content-ahead k cb top s l h = subst (λ (x : Step). IsAheadLow x.context.standing) (content-named tree w apart k cb top s l) (by (has_line tree k))
+  unfolding content_step in_lines
+  content-ahead k cb top s l h = subst (λ (x : Step). IsAheadLow x.context.standing) (sym (content-is tree w apart k cb top s l)) (by (has_line tree k))
     where
       by : (t : Bool) → IsAheadLow (elim t as (λ _. Step) [ true ↦ in_lines tree w apart k cb top s | false ↦ children_of tree w apart cb top s (flow_children tree k) ]).context.standing
       by true = tt

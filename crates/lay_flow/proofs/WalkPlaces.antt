@@ -20,8 +20,7 @@ use Rattle.layout_semantics.specs.Verticals.{verticals}
 use Rattle.layout_laws.proofs.Levels.{All-implied}
 use Rattle.lay_margin.specs.declared.runs.Run.{Run}
 use Rattle.lay_margin.specs.Fitting.{BoxFits}
-use Rattle.lay_steps.specs.Flow as flow
-use Rattle.lay_steps.specs.Flow.{Context, Met, Step, content_of, fresh, met, Standing, at_top, below}
+use Rattle.lay_steps.specs.Flow.{Context, Met, Step, fresh, Standing, at_top, below, standing_in, opened, frame_of, laid_context, laid_block, reached_of, lines_of, content_of}
 use Rattle.lay_steps.proofs.Sound.{IsFlowKid, IsSound}
 use Rattle.page_limits.specs.Bounds.{Bounds, AreInside, grown, all_around, IsBandIn, IsLevelIn}
 use Rattle.page_limits.specs.Boxes.{IsIndependentIn, IsBoxSmall, IsWhole}
@@ -29,7 +28,7 @@ use Rattle.page_limits.specs.Inline.{AreLinesIn, IsContentSmall, IsEntryIn}
 use Rattle.page_limits.specs.Rises.{content_rise}
 use Rattle.page_limits.proofs.Ahead.{rise}
 use Rattle.page_limits.proofs.BoxesWithin.{box-wider}
-use Rattle.page_limits.proofs.ContentWithin.{first-least, line_context}
+use Rattle.page_limits.proofs.ContentWithin.{line_context, lines-in-bounds}
 use Rattle.page_limits.proofs.FloatsMet.{band-wider, floats-wider}
 use Rattle.page_limits.proofs.FlowWithin as within
 use Rattle.page_limits.proofs.Levels.{aside-wider, level-wider}
@@ -40,10 +39,7 @@ use Rattle.lay_flow.specs.Fits.{IsEntryLow, IsReplacedFit, IsShapeFit}
 use Rattle.lay_flow.specs.Low.{reach, IsBandLow, IsContextLow, IsLevelLow, IsRunLow, IsClearedLow, IsFrameLow, IsStandingLow}
 use Rattle.lay_flow.proofs.PageFits.{IsBoxFit}
 use Rattle.lay_flow.specs.WalkFits.{Place, before_content, before_children, before_child, before_flow, when_reached, when_starting, when_going_on, ChildFits, ContentFits, FlowFits, GoOnFits, InLinesFit, LaidFits, PlaceFits, StartFits, WalkFits, inner_end}
-use Rattle.lay_flow.specs.steps.Flow as named
-use Rattle.lay_flow.specs.steps.Flow.{lines_of, reached_of}
 use Rattle.lay_flow.proofs.ReachesFit.{ahead-of-reached-low, reach-fits}
-use Rattle.lay_flow.proofs.Same.{reached-same}
 use Rattle.lay_flow.proofs.Sizes.{level-near}
 use Rattle.lay_flow.proofs.WalkLow.{IsAheadLow, independent-low, content-ahead, independent-wider, sides-low, widths-low}
 use Rattle.lay_flow.proofs.WalkWithin as walk
@@ -51,8 +47,8 @@ use Rattle.lay_flow.proofs.Walks as walks
 
 module _ (tree : BoxTree) (w : World) (own turned : ℕ → Bounds) (s t : ℕ) (fine : 8 * t ≤ s)
     (boxes : (k : ℕ) → IsOnPage tree.boxes k → IsWhole tree k → IsBoxSmall tree w t k) (apart : ℕ → Independent) (independent_in : (k : ℕ) → IsIndependentIn (own k) s (apart k))
-    (lines_small : (n k : ℕ) (left wide : ℤ) → IsSound tree w k wide → has_line tree k ≡ true
-    → IsContentSmall (line_context tree w own turned s t fine boxes apart independent_in n k left wide) own turned s)
+    (lines_small : (k : ℕ) (left wide : ℤ) → IsSound tree w k wide → has_line tree k ≡ true
+    → IsContentSmall (line_context tree w own turned s t fine boxes apart independent_in k left wide) own turned s)
     (low : s ≤ 2 ^ 72) (few : (k : ℕ) → AreInside (own k) (all_around (2 ^ 72))) (each : (k : ℕ) → IsOnPage tree.boxes k → IsWhole tree k → IsBoxFit tree w k) where
   abbrev inside : ℕ → Band ℤ → ℤ → Context → Step
   inside = content_of tree w apart
@@ -76,7 +72,7 @@ module _ (tree : BoxTree) (w : World) (own turned : ℕ → Bounds) (s t : ℕ) 
   Here p = walk.Within tree w own turned s t fine boxes apart independent_in p
 
   abbrev frame : Band ℤ → ℕ → ℤ → Frame
-  frame cb k y = flow.frame_at tree w k (inline_size cb) cb.left y
+  frame cb k y = frame_of tree w k (inline_size cb) cb.left y
 
   -- ---- what is within bounds is low
 
@@ -112,7 +108,6 @@ module _ (tree : BoxTree) (w : World) (own turned : ℕ → Bounds) (s t : ℕ) 
 
   -- behind all that is in a box
   pub content-end : (k : ℕ) (cb : Band ℤ) (top : ℤ) (c : Context) → ContentHere k cb top c → IsContextLow (inner_end tree w apart k cb top c)
-  unfolding named.content_of
   content-end k cb top c h =
       let after = grown h.b (content_rise tree own turned s k) in
       let band = subst (λ (x : Band ℤ). IsBandIn h.b x) h.same h.band in
@@ -123,15 +118,6 @@ module _ (tree : BoxTree) (w : World) (own turned : ℕ → Bounds) (s t : ℕ) 
       (content-ahead tree w apart k cb top c h.there h.ahead)
 
   -- ---- lines
-
-  -- those of a box, by what goes beside them
-  lines-in : (k : ℕ) (left wide top : ℤ) (c : Context) (b : Bounds) → IsSound tree w k wide → k < length tree.boxes → has_line tree k ≡ true → IsBandIn b (content_from left (widths tree w k wide)) → IsLevelIn b top
-      → within.IsContextIn tree w own turned s t fine boxes apart independent_in b (flow_children tree k) c → AreLinesIn own (grown b (content_rise tree own turned s k)) (lines_of tree w apart k (content_from left (widths tree w k wide)) top c)
-  unfolding named.lines_of named.inner_table named.inner_of
-  lines-in k left wide top c b i l e band at h =
-      let x = line_context tree w own turned s t fine boxes apart independent_in 0 k left wide in
-      subst (λ (r : Bounds). AreLinesIn own (grown b r) (lines_in x top (unwrap_or c.least top) c.floats)) (sym (rise-of-lines tree own turned s k l e))
-      (lines-within x own turned s (lines_small 0 k left wide i e) b top (unwrap_or c.least top) c.floats band (at, (first-least tree w own turned s t fine boxes apart independent_in lines_small b c.least top h.least at, tt)) h.floats)
 
   entry-low : (b : Bounds) → AreInside b reach → (x : Entry ℤ) → IsEntryIn own b x → IsEntryLow x
   entry-low b i (of_entry.Here p) q = box-wider b reach p i q
@@ -147,7 +133,7 @@ module _ (tree : BoxTree) (w : World) (own turned : ℕ → Bounds) (s t : ℕ) 
       let narrow = inside-reach h.b (content_rise tree own turned s k) h.room in
       let all = content-low k cb top c h in
       let band = subst (λ (x : Band ℤ). IsBandIn h.b x) h.same h.band in
-      let lines = subst (λ (x : Band ℤ). AreLinesIn own after (lines_of tree w apart k x top c)) (sym h.same) (lines-in k h.left h.wide top c h.b h.sound h.there e band h.at h.begun) in
+      let lines = subst (λ (x : Band ℤ). AreLinesIn own after (lines_of tree w apart k x top c)) (sym h.same) (lines-in-bounds tree w own turned s t fine boxes apart independent_in lines_small k h.b h.left h.wide top c h.sound h.there e band h.at h.begun) in
       record {
         apart_low = λ j. independent-low (apart j) (apart-in j);
         top_near = level-near top (level-wider h.b reach top narrow h.at);
@@ -198,8 +184,9 @@ module _ (tree : BoxTree) (w : World) (own turned : ℕ → Bounds) (s t : ℕ) 
   shape-fit cb k i f = subst (λ (z : ℤ). IsShapeFit tree w k z) (sym i.sound.room) (box-fit cb k i f).shape
 
   frame-low : (cb : Band ℤ) (c : Context) (k : ℕ) (y : ℤ) (cleared : Cleared) → ReachedHere cb c k y cleared → IsFrameLow (frame cb k y)
+  unfolding frame_of
   frame-low cb c k y cleared h =
-      let f = within.frame-in tree w own turned s t fine boxes apart independent_in inside h.flows.b cb k y h.flows.next h.top in
+      let f = within.frame-in tree w own turned s t fine boxes apart independent_in h.flows.b cb k y h.flows.next h.top in
       let u = h.flows.room.up in let d = h.flows.room.down in let a = h.flows.room.aside in
       let left = f.left in
       let small : t ≤ 2 ^ 90 = omega (arith, fine, low) in
@@ -217,14 +204,19 @@ module _ (tree : BoxTree) (w : World) (own turned : ℕ → Bounds) (s t : ℕ) 
   flow-fits cb c k h = record {
     reach = reach-fits tree w own turned s t fine boxes less lead-fits apart independent_in cb c k n.0 n.1 n.2 h.b h.ks n.3 h.begun so_far.standing wide;
     standing = so_far.standing;
-    inside = subst (λ (m : Met). ReachedHere cb c k m.reached.top m.reached.cleared) (sym same) at;
+    inside = record {
+      flows = h;
+      top = found.reached.top;
+      pends = found.reached.pends;
+      cleared_low = ahead-of-reached-low tree w own turned s t fine boxes less lead-fits apart independent_in cb c k n.0 n.1 n.2 h.b h.ks n.3 h.begun so_far.standing wide;
+    };
     band = band-wider h.b reach narrow n.3;
     down = (shape-fit cb k n.1 n.2).down;
-    top_low = subst (λ (m : Met). IsLevelLow m.reached.top) (sym same) (level-wider (grown h.b (all_around (4 * s))) reach here.top (near-low cb c k h) found.top);
-    run = subst (λ (m : Met). IsRunLow m.run) (sym same) (run-low (flow.own_run tree w inside apart cb c k here) (within.own-run-low tree w own turned s t fine boxes apart independent_in inside h.b cb c k h.ks here n h.begun found.top));
+    top_low = level-wider (grown h.b (all_around (4 * s))) reach (reached_of tree w apart cb c k).reached.top (near-low cb c k h) found.reached.top;
+    run = let a = found.run.most in let d = found.run.least in record { most = omega (arith, a, low); least = omega (arith, d, low) };
   }
     where
-      n : within.IsNext tree w own turned s t fine boxes apart independent_in inside h.b cb k
+      n : within.IsNext tree w own turned s t fine boxes apart independent_in h.b cb k
       n = h.next
 
       less : s ≤ 2 ^ 80
@@ -239,28 +231,10 @@ module _ (tree : BoxTree) (w : World) (own turned : ℕ → Bounds) (s t : ℕ) 
       wide : AreInside (grown (grown h.b (all_around (4 * s))) (rises k)) (all_around (2 ^ 88))
       wide = let i = h.room in let u = i.up in let d = i.down in let a = i.aside in record { up = omega (arith, u, low); down = omega (arith, d, low); aside = omega (arith, a, low) }
 
-      here : Reached
-      here = flow.reached tree w inside apart cb c k
-
-      same : reached_of tree w apart cb c k ≡ met here (flow.own_run tree w inside apart cb c k here)
-      same = reached-same tree w apart cb c k
-
-      found : within.IsReachedIn tree w own turned s t fine boxes apart independent_in inside h.b h.ks k here
-      found = within.reached-in tree w own turned s t fine boxes apart independent_in inside h.b cb k h.ks c.standing c.floats c.least c.baseline n h.begun.standing h.begun.floats h.begun.least
-
-      at : ReachedHere cb c k here.top here.cleared
-      at = record {
-        flows = h;
-        top = found.top;
-        pends = found.pends;
-        cleared_low = subst (λ (m : Met). IsClearedLow m.reached.cleared) same (ahead-of-reached-low tree w own turned s t fine boxes less lead-fits apart independent_in cb c k n.0 n.1 n.2 h.b h.ks n.3 h.begun so_far.standing wide);
-      }
-
-      run-low : (run : Run ℤ) → ways.IsRunLow s run → IsRunLow run
-      run-low run r = let a = r.most in let d = r.least in record { most = omega (arith, a, low); least = omega (arith, d, low) }
+      found : within.IsMetIn tree w own turned s t fine boxes apart independent_in h.b h.ks k (reached_of tree w apart cb c k)
+      found = within.met-in tree w own turned s t fine boxes apart independent_in h.b cb c k h.ks n h.begun
 
   laid-fits : (cb : Band ℤ) (c : Context) (k : ℕ) (top : ℤ) (cleared : Cleared) → ReachedHere cb c k top cleared → LaidFits tree w apart Here cb c k top cleared
-  unfolding named.frame_of
   laid-fits cb c k top cleared h = record {
     band = band-wider h.flows.b reach narrow n.3;
     top_low = level-wider (grown h.flows.b (all_around (4 * s))) reach top (near-low cb c k h.flows) h.top;
@@ -272,7 +246,7 @@ module _ (tree : BoxTree) (w : World) (own turned : ℕ → Bounds) (s t : ℕ) 
     block = λ e r. record { y = top; reached = h; same = refl };
   }
     where
-      n : within.IsNext tree w own turned s t fine boxes apart independent_in inside h.flows.b cb k
+      n : within.IsNext tree w own turned s t fine boxes apart independent_in h.flows.b cb k
       n = h.flows.next
 
       narrow : AreInside h.flows.b reach
@@ -281,7 +255,7 @@ module _ (tree : BoxTree) (w : World) (own turned : ℕ → Bounds) (s t : ℕ) 
   -- ---- a box around what is in it
 
   start-fits : (cb : Band ℤ) (c : Context) (k : ℕ) (y : ℤ) (cleared : Cleared) → ReachedHere cb c k y cleared → StartFits tree w apart Here cb c k (frame cb k y)
-  unfolding named.root_of named.tall_of named.content_of
+  unfolding laid_context
   start-fits cb c k y cleared h =
       let b = h.flows.b in
       let n = h.flows.next in
@@ -302,7 +276,7 @@ module _ (tree : BoxTree) (w : World) (own turned : ℕ → Bounds) (s t : ℕ) 
       }
 
   go-on-fits : (cb : Band ℤ) (c : Context) (k : ℕ) (y : ℤ) (cleared : Cleared) → ReachedHere cb c k y cleared → GoOnFits tree w apart Here cb c k cleared (frame cb k y)
-  unfolding named.block_of named.content_of named.opened named.standing_in
+  unfolding laid_block
   go-on-fits cb c k y cleared h =
       let b = h.flows.b in
       let n = h.flows.next in
@@ -317,7 +291,7 @@ module _ (tree : BoxTree) (w : World) (own turned : ℕ → Bounds) (s t : ℕ) 
           frame = frame-low cb c k y cleared h;
           own_height = (box-fit cb k n.1 n.2).own_height;
           inside = into;
-          end = content-end k (content_from cb.left f.x) (content_top f) (named.opened c f (named.standing_in tree k cleared f)) into;
+          end = content-end k (content_from cb.left f.x) (content_top f) (opened c f (standing_in tree k cleared f)) into;
           bottom_low = level-wider (grown b (rises k)) reach _ (after-low cb c k h.flows) done.bottom;
         };
       }

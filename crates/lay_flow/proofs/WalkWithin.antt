@@ -13,8 +13,8 @@ use Rattle.layout_semantics.specs.Rectangles.{Frame, content_top}
 use Rattle.layout_laws.proofs.Levels.{IsFrom, All-implied}
 use Rattle.layout_laws.proofs.LeadLevels.{children-from}
 use Rattle.lay_margin.specs.Runs.{no_run}
-use Rattle.lay_steps.specs.Flow as flow
-use Rattle.lay_steps.specs.Flow.{Context, Standing, Step, at_top, below, fresh, content_of}
+use Rattle.lay_steps.specs.Flow.{Context, Standing, Step, fresh, standing_in, opened, frame_of, content_of, child_of}
+use Rattle.lay_steps.proofs.StepCases.{stands-open, stands-parted}
 use Rattle.lay_steps.proofs.Sound.{IsFlowKid, IsSound, flow-sound}
 use Rattle.page_limits.specs.Bounds.{Bounds, AreInside, grown, all_around, together, IsBandIn, IsLevelIn}
 use Rattle.page_limits.specs.Boxes.{IsIndependentIn, IsBoxSmall, IsWhole}
@@ -30,10 +30,7 @@ use Rattle.page_limits.proofs.Levels.{inside-grown, inside-more, level-wider}
 use Rattle.page_limits.proofs.Rising.{rise-of-kids}
 use Rattle.lay_flow.specs.Low.{IsClearedLow}
 use Rattle.lay_flow.specs.WalkFits.{Place, before_content, before_children, before_child, before_flow, when_reached, when_starting, when_going_on}
-use Rattle.lay_flow.proofs.Same.{child-same}
 use Rattle.lay_flow.proofs.WalkLow.{IsAheadLow, child-ahead}
-use Rattle.lay_flow.specs.steps.Flow as named
-use Rattle.lay_flow.specs.steps.Flow.{child_of}
 
 module _ (tree : BoxTree) (w : World) (own turned : ℕ → Bounds) (s t : ℕ) (fine : 8 * t ≤ s)
     (boxes : (k : ℕ) → IsOnPage tree.boxes k → IsWhole tree k → IsBoxSmall tree w t k) (apart : ℕ → Independent) (independent_in : (k : ℕ) → IsIndependentIn (own k) s (apart k)) where
@@ -97,7 +94,7 @@ module _ (tree : BoxTree) (w : World) (own turned : ℕ → Bounds) (s t : ℕ) 
   pub record FlowIn (cb : Band ℤ) (c : Context) (k : ℕ) : Type 0 where
     pub b : Bounds
     pub ks : List ℕ
-    pub next : within.IsNext tree w own turned s t fine boxes apart independent_in content b cb k
+    pub next : within.IsNext tree w own turned s t fine boxes apart independent_in b cb k
     pub begun : IsContext b (k ∷ ks) c
     pub ahead : IsAheadLow c.standing
     pub room : AreInside (grown b (rises k)) most
@@ -112,7 +109,7 @@ module _ (tree : BoxTree) (w : World) (own turned : ℕ → Bounds) (s t : ℕ) 
   pub record FramedIn (cb : Band ℤ) (c : Context) (k : ℕ) (cleared : Cleared) (f : Frame) : Type 0 where
     pub y : ℤ
     pub reached : ReachedIn cb c k y cleared
-    pub same : f ≡ flow.frame_at tree w k (inline_size cb) cb.left y
+    pub same : f ≡ frame_of tree w k (inline_size cb) cb.left y
 
   abbrev pub Within : Place → Type 0
   Within (before_content k cb top c) = ContentIn k cb top c
@@ -155,8 +152,8 @@ module _ (tree : BoxTree) (w : World) (own turned : ℕ → Bounds) (s t : ℕ) 
       }
 
   -- to those after the first, where the lines of each box are small
-  module _ (lines_small : (n k : ℕ) (left wide : ℤ) → IsSound tree w k wide → has_line tree k ≡ true
-      → IsContentSmall (line_context tree w own turned s t fine boxes apart independent_in n k left wide) own turned s) where
+  module _ (lines_small : (k : ℕ) (left wide : ℤ) → IsSound tree w k wide → has_line tree k ≡ true
+      → IsContentSmall (line_context tree w own turned s t fine boxes apart independent_in k left wide) own turned s) where
     pub inside-all : (k : ℕ) → within.IsInside tree w own turned s t fine boxes apart independent_in content k
     inside-all k = content-in tree w own turned s t fine boxes apart independent_in lines_small (length tree.boxes) k
 
@@ -171,7 +168,7 @@ module _ (tree : BoxTree) (w : World) (own turned : ℕ → Bounds) (s t : ℕ) 
           kids = h.kids.1;
           band = band-wider h.b (grown h.b (rises k)) i h.band;
           at = level-wider h.b (grown h.b (rises k)) top i h.at;
-          begun = subst (λ (x : Step). IsContext (grown h.b (rises k)) ks x.context) (sym (child-same tree w apart cb top c k)) done.context;
+          begun = done.context;
           ahead = child-ahead tree w apart cb top c k h.ahead;
           room = record { up = omega (arith, u); down = omega (arith, d); aside = omega (arith, a) };
         }
@@ -182,13 +179,14 @@ module _ (tree : BoxTree) (w : World) (own turned : ℕ → Bounds) (s t : ℕ) 
   kid-whole cb k i f = flow-whole tree w k (i.flow f)
 
   -- what is in a box, with its frame
-  pub inner-kept : (cb : Band ℤ) (c : Context) (k : ℕ) (y : ℤ) (cleared : Cleared) (inner : Context) → (h : ReachedIn cb c k y cleared) → let f = flow.frame_at tree w k (inline_size cb) cb.left y in
-      IsContext (within.within tree w own turned s t fine boxes apart independent_in content h.flows.b) (flow_children tree k) inner → IsAheadLow inner.standing → ContentIn k (content_from cb.left f.x) (content_top f) inner
+  pub inner-kept : (cb : Band ℤ) (c : Context) (k : ℕ) (y : ℤ) (cleared : Cleared) (inner : Context) → (h : ReachedIn cb c k y cleared) → let f = frame_of tree w k (inline_size cb) cb.left y in
+      IsContext (within.within tree w own turned s t fine boxes apart independent_in h.flows.b) (flow_children tree k) inner → IsAheadLow inner.standing → ContentIn k (content_from cb.left f.x) (content_top f) inner
+  unfolding frame_of
   inner-kept cb c k y cleared inner h begun ahead =
       let b = h.flows.b in
       let n = h.flows.next in
-      let f = flow.frame_at tree w k (inline_size cb) cb.left y in
-      let frame = within.frame-in tree w own turned s t fine boxes apart independent_in content b cb k y n h.top in
+      let f = frame_of tree w k (inline_size cb) cb.left y in
+      let frame = within.frame-in tree w own turned s t fine boxes apart independent_in b cb k y n h.top in
       record {
         b = grown (grown b (all_around (4 * s))) (all_around (16 * s));
         left = cb.left;
@@ -197,49 +195,49 @@ module _ (tree : BoxTree) (w : World) (own turned : ℕ → Bounds) (s t : ℕ) 
         sound = n.1.sound;
         whole = kid-whole cb k n.1 n.2;
         there = n.0;
-        band = within.inner-band tree w own turned s t fine boxes apart independent_in content cb.left b f refl frame;
+        band = within.inner-band tree w own turned s t fine boxes apart independent_in cb.left b f refl frame;
         at = frame.top;
         begun = begun;
         ahead = ahead;
         room = inside-more (grown (grown (grown b (all_around (4 * s))) (all_around (16 * s))) (content_rise tree own turned s k)) (grown b (rises k)) most
-            (within.inner-wide tree w own turned s t fine boxes apart independent_in content b k n.2) h.flows.room;
+            (within.inner-wide tree w own turned s t fine boxes apart independent_in b k n.2) h.flows.room;
       }
 
   -- of one that starts a context, and of one that goes on with that around it
-  pub start-kept : (cb : Band ℤ) (c : Context) (k : ℕ) (y : ℤ) (cleared : Cleared) → ReachedIn cb c k y cleared → let f = flow.frame_at tree w k (inline_size cb) cb.left y in
+  pub start-kept : (cb : Band ℤ) (c : Context) (k : ℕ) (y : ℤ) (cleared : Cleared) → ReachedIn cb c k y cleared → let f = frame_of tree w k (inline_size cb) cb.left y in
       ContentIn k (content_from cb.left f.x) (content_top f) (fresh (content_top f))
   start-kept cb c k y cleared h =
-      let f = flow.frame_at tree w k (inline_size cb) cb.left y in
-      let frame = within.frame-in tree w own turned s t fine boxes apart independent_in content h.flows.b cb k y h.flows.next h.top in
+      let f = frame_of tree w k (inline_size cb) cb.left y in
+      let frame = within.frame-in tree w own turned s t fine boxes apart independent_in h.flows.b cb k y h.flows.next h.top in
       inner-kept cb c k y cleared (fresh (content_top f)) h (record { standing = (frame.top, none-low s); floats = tt; least = tt; baseline = tt }) tt
 
-  pub go-on-kept : (cb : Band ℤ) (c : Context) (k : ℕ) (y : ℤ) (cleared : Cleared) → ReachedIn cb c k y cleared → let f = flow.frame_at tree w k (inline_size cb) cb.left y in
-      ContentIn k (content_from cb.left f.x) (content_top f) (named.opened c f (named.standing_in tree k cleared f))
-  unfolding named.opened named.standing_in
-  go-on-kept cb c k y cleared h = by (is_open_above tree k)
+  pub go-on-kept : (cb : Band ℤ) (c : Context) (k : ℕ) (y : ℤ) (cleared : Cleared) → ReachedIn cb c k y cleared → let f = frame_of tree w k (inline_size cb) cb.left y in
+      ContentIn k (content_from cb.left f.x) (content_top f) (opened c f (standing_in tree k cleared f))
+  unfolding opened
+  go-on-kept cb c k y cleared h =
+      let stands = by (is_open_above tree k) refl in
+      inner-kept cb c k y cleared (opened c f st) h
+      (within.opened-in tree w own turned s t fine boxes apart independent_in h.flows.b c f (k ∷ h.flows.ks) (flow_children tree k) st frame h.flows.begun stands.0) stands.1
     where
-      b : Bounds
-      b = h.flows.b
-
       near : Bounds
-      near = grown b (all_around (4 * s))
+      near = grown h.flows.b (all_around (4 * s))
 
       f : Frame
-      f = flow.frame_at tree w k (inline_size cb) cb.left y
+      f = frame_of tree w k (inline_size cb) cb.left y
 
-      frame : within.IsFrameIn tree w own turned s t fine boxes apart independent_in content b f
-      frame = within.frame-in tree w own turned s t fine boxes apart independent_in content b cb k y h.flows.next h.top
+      st : Standing
+      st = standing_in tree k cleared f
+
+      frame : within.IsFrameIn tree w own turned s t fine boxes apart independent_in h.flows.b f
+      frame = within.frame-in tree w own turned s t fine boxes apart independent_in h.flows.b cb k y h.flows.next h.top
 
       entered : (o : Cleared) → IsPending tree own turned s near (k ∷ h.flows.ks) o → IsPending tree own turned s (grown near (all_around (16 * s))) (flow_children tree k) o
       entered None q = tt
       entered (Some d) q = enter-pending tree own turned s near k h.flows.ks d.0 d.1 h.flows.next.2 q
 
-      begun : (st : Standing) → within.IsStandingIn tree w own turned s t fine boxes apart independent_in (grown near (all_around (16 * s))) (flow_children tree k) st → IsAheadLow st
-          → ContentIn k (content_from cb.left f.x) (content_top f) (flow.opened tree w content apart c f st)
-      begun st q a =
-          inner-kept cb c k y cleared (flow.opened tree w content apart c f st) h
-          (within.opened-in tree w own turned s t fine boxes apart independent_in content b c f (k ∷ h.flows.ks) (flow_children tree k) st frame h.flows.begun q) a
+      Stands : Standing → Type 0
+      Stands x = within.IsStandingIn tree w own turned s t fine boxes apart independent_in (grown near (all_around (16 * s))) (flow_children tree k) x × IsAheadLow x
 
-      by : (o : Bool) → ContentIn k (content_from cb.left f.x) (content_top f) (flow.opened tree w content apart c f (elim o as (λ _. Standing) [ true ↦ at_top f.corner.y cleared | false ↦ below (content_top f) no_run false ]))
-      by true = begun (at_top f.corner.y cleared) (level-wider near (grown near (all_around (16 * s))) f.corner.y (inside-grown near (all_around (16 * s))) frame.y, entered cleared h.pends) h.cleared_low
-      by false = begun (below (content_top f) no_run false) (frame.top, none-low s) tt
+      by : (o : Bool) → is_open_above tree k ≡ o → Stands st
+      by true e = subst Stands (sym (stands-open tree k cleared f e)) ((level-wider near (grown near (all_around (16 * s))) f.corner.y (inside-grown near (all_around (16 * s))) frame.y, entered cleared h.pends), h.cleared_low)
+      by false e = subst Stands (sym (stands-parted tree k cleared f e)) ((frame.top, none-low s), tt)

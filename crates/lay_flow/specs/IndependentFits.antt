@@ -14,7 +14,8 @@ use Rattle.lay_steps.specs.Tables.{laid_at, outside_of}
 use Rattle.lay_flow.specs.Low.{IsContextLow, IsFrameLow}
 use Rattle.lay_flow.specs.Fits.{IsHeightFit, IsReplacedFit, IsShapeFit, near}
 use Rattle.lay_flow.specs.WalkFits.{WalkFits, before_content, inner_end}
-use Rattle.lay_flow.specs.steps.Flow.{corner_of, root_of, table_to, with_box}
+use Rattle.lay_steps.specs.Flow.{corner_of, root_of}
+use Rattle.lay_steps.specs.Tables.{table_to, with_box}
 
 module _ (tree : BoxTree) (w : World) where
   -- ---- the width of a containing block

@@ -1,4 +1,3 @@
-pub mod steps
 pub mod Readings
 pub mod Low
 pub mod Fits

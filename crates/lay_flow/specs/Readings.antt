@@ -10,7 +10,7 @@ use Rattle.lay_steps.specs.Flow as steps
 use Rattle.lay_steps.specs.Forward as forward
 use Rattle.layout_semantics.specs.Clearance as clearance
 use Rattle.lay_steps.specs.Tables.{laid_at}
-use Rattle.lay_flow.specs.steps.Flow.{Ending}
+use Rattle.lay_steps.specs.Flow.{Ending}
 use Rattle.lay_flow.specs.declared.parts.Cleared.{Cleared as ClearedBox}
 use Rattle.lay_flow.specs.declared.parts.Standing.{Standing}
 use Rattle.lay_flow.specs.declared.parts.Standing.TheVariants.{AtTop, Below}
@@ -82,13 +82,4 @@ ending_at at l e = record { through = l.through; bottom = at l.bottom e; margins
 
 -- a box that is laid out, without the boxes that it adds
 abbrev pub laid_with : {N : Type 0} → (N → Reading → ℤ) → Laid N → Context N → Reading → steps.Laid
-laid_with at l c e =
-    record {
-      through = l.through;
-      bottom = at l.bottom e;
-      margins = run_at at l.margins e;
-      after = steps.step (context_at at c e) [];
-    }
-
-abbrev pub without_boxes : steps.Laid → steps.Laid
-without_boxes l = record l { after = steps.step l.after.context [] }
+laid_with at l c e = record { ending = ending_at at l e; after = steps.step (context_at at c e) [] }

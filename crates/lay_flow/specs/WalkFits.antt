@@ -17,7 +17,7 @@ use Rattle.lay_steps.specs.Flow.{Context, fresh}
 use Rattle.lay_flow.specs.Low.{AreApartLow, AreLevelsLow, IsIndependentLow, IsAsideLow, IsBandLow, IsContextLow, IsFrameLow, IsLevelLow, IsRunLow, IsStandingLow}
 use Rattle.lay_flow.specs.Fits.{IsEntryLow, IsHeightFit, IsNear, IsReplacedFit, IsShapeFit}
 use Rattle.lay_flow.specs.WayFits.{ReachFits}
-use Rattle.lay_flow.specs.steps.Flow.{block_of, child_of, content_of, frame_of, inner_table, lines_of, opened, reached_of, root_of, standing_in}
+use Rattle.lay_steps.specs.Flow.{block_of, child_of, content_of, frame_of, inner_table, lines_of, opened, reached_of, root_of, standing_in}
 
 -- the boxes of a tree, for their preferred widths, and this at each open reading
 abbrev pub AllFit : BoxTree → (Reading → Bool) → (Reading → Type 0) → Type 0

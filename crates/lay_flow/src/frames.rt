@@ -9,7 +9,7 @@ ghost use Rattle.layout_semantics.specs.Horizontal.{widths as widths_of};
 ghost use Rattle.lay_frame.specs.Readings.{frame_at};
 ghost use Rattle.lay_width.specs.Readings.{widths_at};
 ghost use Rattle.lay_flow.specs.Readings.{context_at};
-ghost use Rattle.lay_flow.specs.steps.Flow.{frame_of, replaced_of, root_of, block_of};
+ghost use Rattle.lay_steps.specs.Flow.{frame_of, replaced_of, root_of, block_of};
 ghost use Rattle.lay_preferred.specs.Fitting.{BoxesFit};
 ghost use Rattle.lay_flow.specs.Low.{IsBandLow, IsContextLow, IsFrameLow, IsLevelLow};
 ghost use Rattle.lay_flow.specs.Fits.{IsHeightFit, IsReplacedFit, IsShapeFit};
@@ -58,7 +58,7 @@ fn widths<S: Steady>(
     }
 }
 
-#[tactic(auto, unfolding(crate::specs::steps::Flow::frame_of))]
+#[tactic(auto, unfolding(lay_steps::specs::Flow::frame_of))]
 /// A box in flow before its height is known, its border top at `top`.
 pub fn shape<S: Steady>(
     alloc: Global,
@@ -92,7 +92,7 @@ pub fn shape<S: Steady>(
     }
 }
 
-#[tactic(auto, unfolding(crate::specs::steps::Flow::replaced_of))]
+#[tactic(auto, unfolding(lay_steps::specs::Flow::replaced_of))]
 /// A replaced box.
 pub fn replaced_box<S: Steady>(
     calc: &mut S,
@@ -110,7 +110,7 @@ pub fn replaced_box<S: Steady>(
     place(calc, page.tree, b, shape, &height)
 }
 
-#[tactic(auto, unfolding(crate::specs::steps::Flow::root_of))]
+#[tactic(auto, unfolding(lay_steps::specs::Flow::root_of))]
 /// A box that starts a context, after its content.
 pub fn context_box<S: Steady>(
     calc: &mut S,
@@ -135,7 +135,7 @@ pub fn context_box<S: Steady>(
     place(calc, page.tree, b, shape, &height)
 }
 
-#[tactic(auto, unfolding(crate::specs::steps::Flow::block_of))]
+#[tactic(auto, unfolding(lay_steps::specs::Flow::block_of))]
 /// Another block after its content.
 pub fn block_box<S: Steady>(
     calc: &mut S,

@@ -8,8 +8,7 @@ ghost use Rattle.lay_width.specs.Readings.{option_at};
 ghost use Rattle.lay_steps.specs.Flow.{next_edge as edge_of, block_height as tall_block, joined_run as joined_of};
 ghost use Rattle.lay_float.specs.Readings.{boxes_at as floats_in};
 ghost use Rattle.lay_flow.specs.Readings.{standing_at, context_at};
-ghost use Rattle.lay_flow.specs.steps.Flow.{tall_of};
-ghost use Rattle.lay_flow.specs.steps.Flow.{lowest_of};
+ghost use Rattle.lay_steps.specs.Flow.{context_height as tall_of, lowest_of};
 ghost use Rattle.std.specs.List.{AllByRecursion};
 ghost use Rattle.lay_flow.specs.Low.{IsContextLow, IsStandingLow, reach};
 ghost use Rattle.page_limits.specs.Bounds.{IsFloatIn};
@@ -137,7 +136,7 @@ fn lowest<S: Steady>(calc: &mut S, top: &S::Num, floats: &[PlacedFloat<S::Num>])
     best
 }
 
-#[tactic(auto, unfolding(crate::specs::steps::Flow::tall_of))]
+#[tactic(auto, unfolding(lay_steps::specs::Flow::context_height))]
 /// The auto height of a box that starts a context: down to its last child, line or float (CSS 2.1, 10.6.7).
 pub fn context_height<S: Steady>(calc: &mut S, top: &S::Num, end: &Context<S::Num>) -> S::Num
     ensures { Lays S.run calc.old calc.new (S.at result)

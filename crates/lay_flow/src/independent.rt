@@ -14,8 +14,8 @@ ghost use Rattle.lay_width.specs.Readings.{widths_at};
 ghost use Rattle.lay_flow.specs.IndependentFits.{IndependentFits, RoomFits, RootFits};
 ghost use Rattle.lay_flow.specs.WalkFits.{AllFit};
 ghost use Rattle.lay_flow.specs.Readings.{independent_at, apart_at};
-ghost use Rattle.lay_flow.specs.steps.Flow.{corner_of, independent_of};
-ghost use Rattle.lay_flow.specs.steps.Flow.{replaced_independent as replaced_independent_of, context_independent as context_independent_of};
+ghost use Rattle.lay_steps.specs.Flow.{content_of, corner_of, independent_of};
+ghost use Rattle.lay_steps.specs.Flow.{replaced_independent as replaced_independent_of, context_independent as context_independent_of};
 ghost use Rattle.lay_preferred.specs.Fitting.{BoxesFit};
 ghost use Rattle.lay_flow.specs.Low.{IsFrameLow};
 ghost use Rattle.page_limits.specs.Bounds.{IsQuadIn};
@@ -102,7 +102,7 @@ pub fn room<S: Steady>(
     }
 }
 
-#[tactic(auto, unfolding(crate::specs::steps::Flow::corner_of))]
+#[tactic(auto, unfolding(lay_steps::specs::Flow::corner_of))]
 /// A box before its height is known, its outer box at the corner of coordinates of its own.
 fn corner_shape<S: Steady>(
     alloc: Global,
@@ -144,7 +144,7 @@ fn outer_extent<S: Steady>(calc: &mut S, placed: &Placed<S::Num>) -> Extent<S::N
     Extent { width, height }
 }
 
-#[tactic(auto, using(lay_frame::proofs::Slots::no_boxes), unfolding(crate::specs::steps::Flow::replaced_independent))]
+#[tactic(auto, using(lay_frame::proofs::Slots::no_boxes), unfolding(lay_steps::specs::Flow::replaced_independent))]
 /// A replaced box by itself.
 fn replaced_independent<S: Steady>(
     alloc: Global,
@@ -170,7 +170,7 @@ fn replaced_independent<S: Steady>(
     }
 }
 
-#[tactic(auto, using(crate::proofs::IndependentBoxes::kept), unfolding(crate::specs::steps::Flow::context_independent))]
+#[tactic(auto, using(crate::proofs::IndependentBoxes::kept), unfolding(lay_steps::specs::Flow::context_independent))]
 /// A box that starts a context by itself, with all in it.
 fn context_independent<S: Steady>(
     alloc: Global,
@@ -183,7 +183,8 @@ fn context_independent<S: Steady>(
     ensures goes { Goes (S.run calc.old) (S.run calc.new) }
     ensures value { WhereOpen (S.run calc.new).is_open
         (λ e. independent_at S.at result e ≡ context_independent_of page.now.tree.now e.world
-        (apart_at S.at page.now.apart.now e) b (frame_at S.at shape.now e)) }
+        (content_of page.now.tree.now e.world (apart_at S.at page.now.apart.now e)) b
+        (frame_at S.at shape.now e)) }
     ensures cause { BlamesButMem (S.run calc.old) (S.run calc.new)
         (AllFit page.now.tree.now (S.run calc.old).is_open
         (λ e. RootFits page.now.tree.now e.world (apart_at S.at page.now.apart.now e) b
@@ -207,7 +208,7 @@ fn context_independent<S: Steady>(
     }
 }
 
-#[tactic(auto, unfolding(crate::specs::steps::Flow::independent_of))]
+#[tactic(auto, unfolding(lay_steps::specs::Flow::independent))]
 /// Lays out a box by itself, in so wide a containing block.
 pub fn independent<S: Steady>(
     alloc: Global,

@@ -20,7 +20,7 @@ ghost use Rattle.lay_line.specs.Readings.{entry_at, entries_at};
 ghost use Rattle.lay_steps.specs.Flow.{line_tops};
 ghost use Rattle.lay_flow.specs.WalkFits.{InLinesFit};
 ghost use Rattle.lay_flow.specs.Readings.{apart_at, context_at};
-ghost use Rattle.lay_flow.specs.steps.Flow.{inner_of as inner_of_step, entry_of, inner_table as table_of, lines_of, in_lines as lines_step, filled_table};
+ghost use Rattle.lay_steps.specs.Flow.{inner_size as inner_of_step, entry_of, inner_table as table_of, lines_of, in_lines as lines_step, filled_table};
 ghost use Rattle.lay_flow.specs.Low.{AreApartLow, AreLevelsLow, IsIndependentLow};
 ghost use Rattle.lay_flow.specs.Fits.{IsEntryLow, IsNear};
 
@@ -73,7 +73,7 @@ fn clips(tree: &BoxTree, b: u32) -> bool
     }
 }
 
-#[tactic(auto, unfolding(crate::specs::steps::Flow::inner_of, crate::specs::Readings::apart_at))]
+#[tactic(auto, unfolding(lay_steps::specs::Flow::inner_size, crate::specs::Readings::apart_at))]
 /// What a float or an atomic box takes on a line.
 fn inner_of<S: Steady>(calc: &mut S, page: &Page<'_, S::Num>, at: u32) -> Inner<S::Num>
     ensures { Lays S.run calc.old calc.new (inner_at S.at result)
@@ -228,7 +228,7 @@ fn raised_by<S: Steady>(
     best
 }
 
-#[tactic(auto, unfolding(crate::specs::steps::Flow::entry_of))]
+#[tactic(auto, unfolding(lay_steps::specs::Flow::entry_of))]
 /// Adds an entry: the boxes of a float or an atomic box at its place, or one box.
 fn add_entry<S: Steady>(
     calc: &mut S,

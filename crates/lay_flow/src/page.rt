@@ -14,7 +14,7 @@ ghost use Rattle.lay_steps.specs.Tables.{outside_of as outside, page_boxes};
 ghost use Rattle.lay_flow.specs.IndependentFits.{BoxAddedFits, BoxesAddedFit, ContainerFits, PageComesFit, TableFits};
 ghost use Rattle.lay_flow.specs.WalkFits.{AllFit};
 ghost use Rattle.lay_flow.specs.Readings.{table_at};
-ghost use Rattle.lay_flow.specs.steps.Flow.{with_box, with_boxes, with_container as with_container_of, table_to};
+ghost use Rattle.lay_steps.specs.Tables.{with_box, with_boxes, with_container as with_container_of, table_to};
 
 use crate::independent::{independent, room};
 use crate::lines::inner_boxes;
@@ -128,7 +128,7 @@ fn add_boxes<S: Steady>(
     }
 }
 
-#[tactic(auto, unfolding(crate::specs::steps::Flow::with_container))]
+#[tactic(auto, unfolding(lay_steps::specs::Tables::with_container))]
 /// Lays out what stands outside the flow of a box; an inline box is no block container.
 fn add_container<S: Steady>(
     alloc: Global,

@@ -14,7 +14,7 @@ ghost use Rattle.lay_steps.specs.Flow.{is_at_top as at_top, below as below_of};
 ghost use Rattle.lay_steps.specs.Forward.{cleared_of as cleared_in};
 ghost use Rattle.lay_flow.specs.Readings.{apart_at, base_at, cleared_at, context_at, end_at, ending_at, found_at, met_at, standing_at};
 ghost use Rattle.lay_flow.specs.WayFits.{ForwardFits, FromFits, ReachFits};
-ghost use Rattle.lay_flow.specs.steps.Flow.{forward_of, opened, reached_from as from_of, reached_of, standing_after as after_of, standing_in};
+ghost use Rattle.lay_steps.specs.Flow.{forward_of, opened, reached_from as from_of, reached_of, standing_after as after_of, standing_in};
 ghost use Rattle.lay_flow.specs.Low.{AreLevelsLow, IsBandLow, IsClearedLow, IsFrameLow, IsLevelLow, IsRunLow, IsStandingLow};
 ghost use Rattle.lay_flow.specs.Fits.{IsNear};
 ghost use Rattle.lay_width.specs.Fitting.{VerticalsFit};
@@ -108,7 +108,7 @@ fn copy_cleared<S: Steady>(
     }
 }
 
-#[tactic(auto, unfolding(crate::specs::steps::Flow::reached_from))]
+#[tactic(auto, unfolding(lay_steps::specs::Flow::reached_from))]
 /// Where a box is reached whose edge would be y, and the run before it: all before the cleared box stand at y.
 fn reached_from<S: Steady>(
     alloc: Global,
@@ -167,7 +167,7 @@ fn reached_from<S: Steady>(
     }
 }
 
-#[tactic(auto, unfolding(crate::specs::steps::Flow::reached_of))]
+#[tactic(auto, unfolding(lay_steps::specs::Flow::reached_of))]
 /// Where a box that comes next stands, and the run before it with its lead joined.
 pub fn reach<S: Steady>(
     alloc: Global,
@@ -255,7 +255,7 @@ pub fn copy_standing<S: Steady>(calc: &mut S, standing: &Standing<S::Num>) -> St
     }
 }
 
-#[tactic(auto, unfolding(crate::specs::steps::Flow::standing_in))]
+#[tactic(auto, unfolding(lay_steps::specs::Flow::standing_in))]
 /// Where the first child of a block stands.
 pub fn standing_in<S: Steady>(
     calc: &mut S,
@@ -313,7 +313,7 @@ fn outer_top<S: Steady>(calc: &mut S, shape: &Shape<S::Num>) -> S::Num
     lesser(calc, top, outer)
 }
 
-#[tactic(auto, unfolding(crate::specs::steps::Flow::opened))]
+#[tactic(auto, unfolding(lay_steps::specs::Flow::opened))]
 /// Opens a box: its outer top counts, and its first child stands so. Gives back where it stood.
 pub fn open<S: Steady>(
     calc: &mut S,
@@ -345,7 +345,7 @@ pub fn is_at_top<N>(standing: &Standing<N>) -> bool
     matches!(standing, Standing::AtTop { .. })
 }
 
-#[tactic(auto, unfolding(crate::specs::steps::Flow::standing_after))]
+#[tactic(auto, unfolding(lay_steps::specs::Flow::standing_after))]
 /// Where boxes stand after a box.
 pub fn standing_after<S: Steady>(
     calc: &mut S,

@@ -9,10 +9,9 @@ ghost use Rattle.lay_frame.specs.Readings.{frame_at, boxes_at};
 ghost use Rattle.lay_float.specs.Agreement.{Agree};
 ghost use Rattle.lay_float.specs.Readings.{option_at};
 ghost use Rattle.lay_margin.specs.Runs.{run_at, with_margin};
-ghost use Rattle.lay_steps.specs.Flow.{fresh as fresh_of};
 ghost use Rattle.lay_flow.specs.WalkFits.{AllFit, WalkFits, before_content, before_children, before_child, before_flow, when_reached, when_starting, when_going_on};
-ghost use Rattle.lay_flow.specs.Readings.{apart_at, cleared_at, context_at, laid_with, without_boxes};
-ghost use Rattle.lay_flow.specs.steps.Flow.{float_of, left, laid_replaced as replaced_step, laid_context as context_step, laid_block as block_step, laid_of, in_flow, child_of, children_of, content_of};
+ghost use Rattle.lay_flow.specs.Readings.{apart_at, cleared_at, context_at, laid_with};
+ghost use Rattle.lay_steps.specs.Flow.{fresh as fresh_of, without_boxes, float_of, left, laid_replaced as replaced_step, laid_context as context_step, laid_block as block_step, laid_of, in_flow, child_of, children_of, content_of};
 ghost use Rattle.lay_flow.specs.Low.{AreLevelsLow, IsIndependentLow, IsBandLow, IsContextLow, IsFrameLow};
 ghost use Rattle.lay_flow.specs.Fits.{IsNear, IsReplacedFit};
 
@@ -56,7 +55,7 @@ pub fn fresh<S: Steady>(alloc: Global, calc: &mut S, top: &S::Num) -> Context<S:
     }
 }
 
-#[tactic(auto, unfolding(crate::specs::steps::Flow::float_of))]
+#[tactic(auto, unfolding(lay_steps::specs::Flow::float_of))]
 /// Places a float that is laid out.
 fn float<S: Steady>(
     calc: &mut S,
@@ -114,7 +113,7 @@ fn closing<S: Steady>(calc: &mut S, run: Run<S::Num>, shape: &Shape<S::Num>) -> 
     run
 }
 
-#[tactic(auto, unfolding(crate::specs::steps::Flow::laid_replaced))]
+#[tactic(auto, unfolding(lay_steps::specs::Flow::laid_replaced))]
 /// Lays out a replaced box in so wide a containing block.
 fn lay_replaced<S: Steady>(
     calc: &mut S,
@@ -128,14 +127,12 @@ fn lay_replaced<S: Steady>(
     ensures goes { Goes (S.run calc.old) (S.run calc.new) }
     ensures value { WhereOpen (S.run calc.new).is_open
         (λ e. laid_with S.at result context.new e
-        ≡ without_boxes (replaced_step page.now.tree.now e.world
-        (apart_at S.at page.now.apart.now e) (S.at room.now e) (context_at S.at context.old e) b
-        (frame_at S.at shape.now e))) }
+        ≡ without_boxes (replaced_step page.now.tree.now e.world (S.at room.now e)
+        (context_at S.at context.old e) b (frame_at S.at shape.now e))) }
     ensures boxes { WhereOpen (S.run calc.new).is_open
         (λ e. boxes_at S.at out.new.items e
         ≡ boxes_at S.at out.old.items e
-        ++ (replaced_step page.now.tree.now e.world (apart_at S.at page.now.apart.now e)
-        (S.at room.now e) (context_at S.at context.old e) b
+        ++ (replaced_step page.now.tree.now e.world (S.at room.now e) (context_at S.at context.old e) b
         (frame_at S.at shape.now e)).after.boxes) }
     ensures cause { BlamesButMem (S.run calc.old) (S.run calc.new)
         (WhereOpen (S.run calc.old).is_open
@@ -170,7 +167,7 @@ fn baseline_after<N: Drop>(inside: Option<N>, before: Option<N>) -> Option<N>
     }
 }
 
-#[tactic(auto, unfolding(crate::specs::steps::Flow::left))]
+#[tactic(auto, unfolding(lay_steps::specs::Flow::left))]
 /// Goes on with the context around a box whose own has come so far.
 fn leave<S: Steady>(
     calc: &mut S,
@@ -201,7 +198,7 @@ fn leave<S: Steady>(
 }
 
 #[cycle(flow)]
-#[tactic(auto, using(lay_frame::proofs::Slots::seams), unfolding(crate::specs::steps::Flow::laid_context))]
+#[tactic(auto, using(lay_frame::proofs::Slots::seams), unfolding(lay_steps::specs::Flow::laid_context))]
 /// Lays out a box that starts a context; the one around it goes on as it was, but for the last line's baseline.
 fn lay_context<S: Steady>(
     alloc: Global,
@@ -217,12 +214,14 @@ fn lay_context<S: Steady>(
     ensures goes { Goes (S.run calc.old) (S.run calc.new) }
     ensures value { WhereOpen (S.run calc.new).is_open
         (λ e. laid_with S.at result context.new e
-        ≡ without_boxes (context_step page.now.tree.now e.world (apart_at S.at page.now.apart.now e)
+        ≡ without_boxes (context_step page.now.tree.now e.world
+        (content_of page.now.tree.now e.world (apart_at S.at page.now.apart.now e))
         (band_at S.at cb.now e) (context_at S.at context.old e) b (frame_at S.at shape.now e))) }
     ensures boxes { WhereOpen (S.run calc.new).is_open
         (λ e. boxes_at S.at out.new.items e
         ≡ boxes_at S.at out.old.items e
-        ++ (context_step page.now.tree.now e.world (apart_at S.at page.now.apart.now e)
+        ++ (context_step page.now.tree.now e.world
+        (content_of page.now.tree.now e.world (apart_at S.at page.now.apart.now e))
         (band_at S.at cb.now e) (context_at S.at context.old e) b
         (frame_at S.at shape.now e)).after.boxes) }
     ensures cause { BlamesButMem (S.run calc.old) (S.run calc.new)
@@ -250,7 +249,7 @@ fn lay_context<S: Steady>(
 }
 
 #[cycle(flow)]
-#[tactic(auto, using(lay_frame::proofs::Slots::seams), unfolding(crate::specs::steps::Flow::laid_block))]
+#[tactic(auto, using(lay_frame::proofs::Slots::seams), unfolding(lay_steps::specs::Flow::laid_block))]
 /// Lays out another block, which goes on with the context.
 fn lay_block<S: Steady>(
     alloc: Global,
@@ -268,13 +267,15 @@ fn lay_block<S: Steady>(
     ensures goes { Goes (S.run calc.old) (S.run calc.new) }
     ensures value { WhereOpen (S.run calc.new).is_open
         (λ e. laid_with S.at result context.new e
-        ≡ without_boxes (block_step page.now.tree.now e.world (apart_at S.at page.now.apart.now e)
+        ≡ without_boxes (block_step page.now.tree.now e.world
+        (content_of page.now.tree.now e.world (apart_at S.at page.now.apart.now e))
         (band_at S.at cb.now e) (context_at S.at context.old e) b (cleared_at S.at cleared e)
         (frame_at S.at shape.now e))) }
     ensures boxes { WhereOpen (S.run calc.new).is_open
         (λ e. boxes_at S.at out.new.items e
         ≡ boxes_at S.at out.old.items e
-        ++ (block_step page.now.tree.now e.world (apart_at S.at page.now.apart.now e)
+        ++ (block_step page.now.tree.now e.world
+        (content_of page.now.tree.now e.world (apart_at S.at page.now.apart.now e))
         (band_at S.at cb.now e) (context_at S.at context.old e) b (cleared_at S.at cleared e)
         (frame_at S.at shape.now e)).after.boxes) }
     ensures cause { BlamesButMem (S.run calc.old) (S.run calc.new)
@@ -305,7 +306,7 @@ fn lay_block<S: Steady>(
 }
 
 #[cycle(flow)]
-#[tactic(auto, unfolding(crate::specs::steps::Flow::laid_of))]
+#[tactic(auto, unfolding(lay_steps::specs::Flow::laid))]
 /// Lays out a box in flow that is reached.
 fn lay<S: Steady>(
     alloc: Global,
@@ -349,7 +350,7 @@ fn lay<S: Steady>(
 }
 
 #[cycle(flow)]
-#[tactic(auto, unfolding(crate::specs::steps::Flow::in_flow))]
+#[tactic(auto, unfolding(lay_steps::specs::Flow::flow_child))]
 /// A box in flow.
 fn flow<S: Steady>(
     alloc: Global,
@@ -397,7 +398,7 @@ fn flow<S: Steady>(
 }
 
 #[cycle(flow)]
-#[tactic(auto, unfolding(crate::specs::steps::Flow::child_of))]
+#[tactic(auto, unfolding(lay_steps::specs::Flow::child))]
 /// A child of a block container.
 fn child<S: Steady>(
     alloc: Global,

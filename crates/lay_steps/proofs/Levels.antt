@@ -1,5 +1,5 @@
 -- More levels change neither the way forward nor the steps through what is in a box.
-use Rattle.std.proofs.Common.{◌≡◌, ℕ, zero, suc, ◌+◌, ◌<◌, ◌≤◌, ℤ, Bool, true, false, List, [], ◌∷◌, ◌++◌, length, Option, refl, ap, ◌∙◌, arith}
+use Rattle.std.proofs.Common.{◌≡◌, ℕ, zero, suc, ◌+◌, ◌<◌, ◌≤◌, ℤ, Bool, true, false, List, [], ◌∷◌, ◌++◌, length, Option, refl, sym, ap, ◌∙◌, arith}
 use Rattle.std.specs.List.{AllByRecursion}
 use Rattle.viz_base.specs.declared.layouts.Band.{Band}
 use Rattle.viz_base.specs.declared.layouts.Extent.{Extent}
@@ -8,17 +8,18 @@ use Rattle.viz_base.specs.declared.trees.BoxTree.{BoxTree}
 use Rattle.viz_base.specs.declared.worlds.World.{World}
 use Rattle.layout_semantics.specs.Floats.{FloatBox}
 use Rattle.layout_semantics.specs.Rectangles.{Frame, content_top}
-use Rattle.layout_semantics.specs.FlowBoxes.{is_replaced_at, is_context_root, is_open_above, flow_children, inline_size, content_from}
+use Rattle.layout_semantics.specs.FlowBoxes.{is_replaced_at, is_context_root, flow_children, inline_size, content_from}
 use Rattle.layout_semantics.specs.InlineContent.{is_floated_at, has_line}
 use Rattle.layout_semantics.specs.Flow.{Independent, Reached}
 use Rattle.layout_semantics.specs.Clearance.{Base, on_ground}
 use Rattle.layout_laws.proofs.Levels.{IsFrom}
 use Rattle.layout_laws.proofs.LeadLevels.{children-from}
 use Rattle.lay_margin.specs.declared.runs.Run.{Run}
-use Rattle.lay_margin.specs.Runs.{no_run, with_margin}
+use Rattle.lay_margin.specs.Runs.{with_margin}
 use Rattle.lay_margin.specs.steps.Leads.{inner_band, margin_above}
 use Rattle.lay_steps.specs.Forward.{Found, found, goes_on, then_on, inside_found, passed_box, kid_of, kids_found, box_found, forward_step, forward_to}
-use Rattle.lay_steps.specs.Flow.{at_top, below, Context, fresh, Step, step, followed, children, frame_at, reached, opened, Laid, met, laid, own_run, standing_after, child, content_step, content_to, content_of}
+use Rattle.lay_steps.specs.Flow.{Context, fresh, Step, step, followed, children, frame_of, standing_in, opened, Laid, laid, laid_context, laid_block, reached_of, float_of, standing_after, flow_child, child, in_lines, content_step, content_to, content_of, children_of}
+use Rattle.lay_steps.proofs.StepCases.{step-lines, step-children}
 
 -- ---- the way forward
 
@@ -54,27 +55,26 @@ module _ (tree : BoxTree) (w : World) (size : Waiting ℤ → Extent ℤ) (base 
 
 module _ (tree : BoxTree) (w : World) (apart : ℕ → Independent) (f g : ℕ → Band ℤ → ℤ → Context → Step) (b : ℕ)
     (same : (k : ℕ) → IsFrom tree.boxes (suc b) k → (cb : Band ℤ) (top : ℤ) (s : Context) → f k cb top s ≡ g k cb top s) where
-  laid-same : (cb : Band ℤ) (s : Context) (k : ℕ) (r : Reached) → IsFrom tree.boxes (suc b) k → laid tree w f apart cb s k r ≡ laid tree w g apart cb s k r
-  laid-same cb s k r h = by (is_replaced_at tree k) (is_context_root tree k) (is_open_above tree k) refl refl refl
+  laid-same : (cb : Band ℤ) (s : Context) (k : ℕ) (r : Reached) → IsFrom tree.boxes (suc b) k → laid tree w f cb s k r ≡ laid tree w g cb s k r
+  unfolding laid laid_context laid_block
+  laid-same cb s k r h = by (is_replaced_at tree k) (is_context_root tree k) refl refl
     where
       frame : Frame
-      frame = frame_at tree w k (inline_size cb) cb.left r.top
+      frame = frame_of tree w k (inline_size cb) cb.left r.top
 
-      by : (replaced context opens : Bool) → is_replaced_at tree k ≡ replaced → is_context_root tree k ≡ context → is_open_above tree k ≡ opens
-          → laid tree w f apart cb s k r ≡ laid tree w g apart cb s k r
-      by true context opens d e o = rw d refl
-      by false true opens d e o = rw (d, e, same k h (content_from cb.left frame.x) (content_top frame) (fresh (content_top frame))) refl
-      by false false true d e o = rw (d, e, o, same k h (content_from cb.left frame.x) (content_top frame) (opened tree w f apart s frame (at_top frame.corner.y r.cleared))) refl
-      by false false false d e o = rw (d, e, o, same k h (content_from cb.left frame.x) (content_top frame) (opened tree w f apart s frame (below (content_top frame) no_run false))) refl
+      by : (replaced context : Bool) → is_replaced_at tree k ≡ replaced → is_context_root tree k ≡ context → laid tree w f cb s k r ≡ laid tree w g cb s k r
+      by true context d e = rw d refl
+      by false true d e = rw (d, e, same k h (content_from cb.left frame.x) (content_top frame) (fresh (content_top frame))) refl
+      by false false d e = rw (d, e, same k h (content_from cb.left frame.x) (content_top frame) (opened s frame (standing_in tree k r.cleared frame))) refl
 
   child-same : (cb : Band ℤ) (top : ℤ) (s : Context) (k : ℕ) → IsFrom tree.boxes (suc b) k → child tree w f apart cb top s k ≡ child tree w g apart cb top s k
-  child-same cb top s k h = by (is_floated_at tree k) refl
-    where
-      by : (x : Bool) → is_floated_at tree k ≡ x → child tree w f apart cb top s k ≡ child tree w g apart cb top s k
-      by true e = rw e refl
-      by false e =
-          let r = reached tree w g apart cb s k in
-          rw e (ap (λ (l : Laid). step (record l.after.context { standing = standing_after tree w g apart cb s.standing k (met r (own_run tree w g apart cb s k r)) l }) l.after.boxes) (laid-same cb s k r h))
+  unfolding child flow_child
+  child-same cb top s k h =
+      let m = reached_of tree w apart cb s k in
+      ap (λ (l : Laid). elim (is_floated_at tree k) as (λ _. Step) [
+        | true ↦ float_of tree w apart cb top s k
+        | false ↦ step (record l.after.context { standing = standing_after tree w cb s.standing k m l.ending }) l.after.boxes
+      ]) (laid-same cb s k m.reached h)
 
   children-same : (cb : Band ℤ) (top : ℤ) (s : Context) (ks : List ℕ) → AllByRecursion (IsFrom tree.boxes (suc b)) ks
       → children (child tree w f apart cb top) s ks ≡ children (child tree w g apart cb top) s ks
@@ -85,11 +85,10 @@ module _ (tree : BoxTree) (w : World) (apart : ℕ → Independent) (f g : ℕ �
       ∙ ap (followed next) (children-same cb top next.context ks a.1)
 
   step-same : (cb : Band ℤ) (top : ℤ) (s : Context) → content_step tree w f apart b cb top s ≡ content_step tree w g apart b cb top s
-  step-same cb top s = by (has_line tree b) refl
-    where
-      by : (x : Bool) → has_line tree b ≡ x → content_step tree w f apart b cb top s ≡ content_step tree w g apart b cb top s
-      by true e = rw e refl
-      by false e = rw e (children-same cb top s (flow_children tree b) (children-from tree b))
+  unfolding content_step
+  step-same cb top s =
+      ap (λ (q : Step). elim (has_line tree b) as (λ _. Step) [ true ↦ in_lines tree w apart b cb top s | false ↦ q ])
+      (children-same cb top s (flow_children tree b) (children-from tree b))
 
 module _ (tree : BoxTree) (w : World) (apart : ℕ → Independent) where
   content-enough : (n m b : ℕ) (cb : Band ℤ) (top : ℤ) (s : Context) → b < length tree.boxes → length tree.boxes ≤ n + b → length tree.boxes ≤ m + b
@@ -105,3 +104,11 @@ module _ (tree : BoxTree) (w : World) (apart : ℕ → Independent) where
       → content_of tree w apart b cb top s ≡ content_step tree w (content_of tree w apart) apart b cb top s
   unfolding content_to
   content-is b cb top s l = content-enough (length tree.boxes) (suc (length tree.boxes)) b cb top s l (omega arith) (omega arith)
+
+  -- its lines, or its children one after another
+  pub by-lines : (b : ℕ) (cb : Band ℤ) (top : ℤ) (s : Context) → b < length tree.boxes → has_line tree b ≡ true → in_lines tree w apart b cb top s ≡ content_of tree w apart b cb top s
+  by-lines b cb top s l e = sym (content-is b cb top s l ∙ step-lines tree w (content_of tree w apart) apart cb top s b e)
+
+  pub by-children : (b : ℕ) (cb : Band ℤ) (top : ℤ) (s : Context) → b < length tree.boxes → (ks : List ℕ) → has_line tree b ≡ false → ks ≡ flow_children tree b
+      → children_of tree w apart cb top s ks ≡ content_of tree w apart b cb top s
+  by-children b cb top s l ks e is = ap (children_of tree w apart cb top s) is ∙ sym (content-is b cb top s l ∙ step-children tree w (content_of tree w apart) apart cb top s b e)

@@ -6,7 +6,11 @@ pub mod Resolved
 pub mod Passed
 pub mod Sizes
 pub mod Sound
+pub mod StepCases
 pub mod Levels
+pub mod Reaches
+pub mod WalkSteps
+pub mod KidSteps
 pub mod Through
 pub mod TopStays
 pub mod FlowSteps

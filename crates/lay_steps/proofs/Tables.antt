@@ -1,5 +1,5 @@
 -- The table of boxes outside the flow holds each of them as it is laid out; with it the steps of a page are its rendering.
-use Rattle.std.proofs.Common.{◌≡◌, ◌≢◌, ℕ, zero, suc, ◌+◌, ◌-◌, ◌<◌, ◌≤◌, inl, inr, ◌*◌, ℤ, pos, Bool, true, false, Contains, List, [], ◌∷◌, filter, fold, length, set, Option, None, Some, refl, sym, ap, ◌∙◌, subst, arith}
+use Rattle.std.proofs.Common.{◌≡◌, ◌≢◌, ℕ, zero, suc, ◌+◌, ◌-◌, ◌<◌, ◌≤◌, inl, inr, ◌*◌, ℤ, pos, Bool, true, false, Contains, List, [], ◌∷◌, filter, fold, length, replicate, set, Option, None, Some, refl, sym, ap, ◌∙◌, subst, arith}
 use Rattle.std.specs.Prelude.{unwrap_or}
 use Rattle.std.specs.List.{AllByRecursion}
 use Rattle.std.specs.Option.{option_map_or}
@@ -23,7 +23,7 @@ use Rattle.layout_laws.proofs.Greatest.{filter-implied}
 use Rattle.layout_laws.proofs.Levels.{IsFrom, All-implied, inner_boxes-from}
 use Rattle.layout_laws.proofs.LeadLevels.{children-from}
 use Rattle.layout_laws.proofs.FlowLevels.{flow-is}
-use Rattle.lay_steps.specs.Flow.{independent, content_to, content_of}
+use Rattle.lay_steps.specs.Flow.{content_to, independent_of}
 use Rattle.lay_steps.specs.Progress.{context_of}
 use Rattle.lay_steps.specs.Tables.{outside_of, nothing_independent, laid_at, with_box, with_container, table_to, page_boxes}
 use Rattle.lay_steps.proofs.InOrder.{root_no_inline, box_before}
@@ -40,6 +40,12 @@ outside-by tree b P inner flow = by (has_line tree b)
     by : (l : Bool) → AllByRecursion P (elim l as (λ _. List ℕ) [ true ↦ inner_boxes tree b | false ↦ filter (is_floated_at tree) (flow_children tree b) ])
     by true = inner
     by false = filter-implied P P (is_floated_at tree) (flow_children tree b) (λ k h t. h) flow
+
+outside-later : (tree : BoxTree) (b : ℕ) → AllByRecursion (IsFrom tree.boxes (suc b)) (outside_of tree b)
+outside-later tree b = outside-by tree b (IsFrom tree.boxes (suc b)) (inner_boxes-from tree b (forest tree)) (children-from tree b)
+
+pub outside-within : (tree : BoxTree) (b : ℕ) → AllByRecursion (λ k. k < length tree.boxes) (outside_of tree b)
+outside-within tree b = All-implied (IsFrom tree.boxes (suc b)) (λ k. k < length tree.boxes) (outside_of tree b) (λ k f. f.within) (outside-later tree b)
 
 -- ---- one place of a table
 
@@ -75,9 +81,6 @@ module _ (tree : BoxTree) (w : World) where
   abbrev IsLater : ℕ → ℕ → Type 0
   IsLater b k = IsFrom tree.boxes (suc b) k
 
-  outside-later : (b : ℕ) → AllByRecursion (IsLater b) (outside_of tree b)
-  outside-later b = outside-by tree b (IsLater b) (inner_boxes-from tree b (forest tree)) (children-from tree b)
-
   -- ---- the flow by a table
 
   pub flow-agrees : (table : List (Option Independent)) (low : ℕ) → AllServed table low → (n b : ℕ) (left wide top : ℤ) (p : Progress) → low ≤ b → IsSound tree w b wide → length tree.boxes ≤ n + b
@@ -93,8 +96,8 @@ module _ (tree : BoxTree) (w : World) where
       (λ k above within. top-free tree w (laid_at table) n k within (omega arith)) (box_before tree) left wide top p s)
 
   pub box-same : (table : List (Option Independent)) (low : ℕ) → AllServed table low → (k : ℕ) (wide : ℤ) → low ≤ k → IsSound tree w k wide
-      → landed.independent tree w (landed.flow tree w) k wide ≡ independent tree w (content_of tree w (laid_at table)) k wide
-  box-same table low served k wide l s = independent-same tree w (landed.flow tree w) (content_of tree w (laid_at table)) k wide
+      → landed.independent tree w (landed.flow tree w) k wide ≡ independent_of tree w (laid_at table) k wide
+  box-same table low served k wide l s = independent-same tree w (landed.flow tree w) (content_to tree w (laid_at table) (length tree.boxes)) k wide
       (λ top. flow-agrees table low served (length tree.boxes) k (pos 0) wide top (landed.fresh top) l s (omega arith))
 
   -- ---- the table is filled
@@ -106,10 +109,11 @@ module _ (tree : BoxTree) (w : World) where
 
   -- one box more
   one-more : (table : List (Option Independent)) (b k : ℕ) → length table ≡ length tree.boxes → AllServed table (suc b) → IsLater b k → IsMore table (with_box tree w table k)
+  unfolding with_box
   one-more table b k long served later = record { long = length-set table k (Some a) ∙ long; keeps = keeps }
     where
       a : Independent
-      a = independent tree w (content_of tree w (laid_at table)) k (room tree w k)
+      a = independent_of tree w (laid_at table) k (room tree w k)
 
       put : Sound k → right k ≡ laid_at (set table k (Some a)) k
       put s = box-same table (suc b) served k (room tree w k) later.from s ∙ sym (laid-same table k a (let within = later.within in omega (arith, long)))
@@ -121,8 +125,9 @@ module _ (tree : BoxTree) (w : World) where
       ]
 
   put-right : (table : List (Option Independent)) (b k : ℕ) → length table ≡ length tree.boxes → AllServed table (suc b) → IsLater b k → Sound k → Served (with_box tree w table k) k
+  unfolding with_box
   put-right table b k long served later s =
-      let a = independent tree w (content_of tree w (laid_at table)) k (room tree w k) in
+      let a = independent_of tree w (laid_at table) k (room tree w k) in
       box-same table (suc b) served k (room tree w k) later.from s ∙ sym (laid-same table k a (let within = later.within in omega (arith, long)))
 
   all-kept : (before after : List (Option Independent)) → IsMore before after → (ks : List ℕ) → AllByRecursion Sound ks → AllByRecursion (Served before) ks → AllByRecursion (Served after) ks
@@ -157,13 +162,14 @@ module _ (tree : BoxTree) (w : World) where
     pub served : AllServed table low
 
   one-container : (b : ℕ) (table : List (Option Independent)) → IsFilled table (suc b) → IsFilled (with_container tree w table b) b
+  unfolding with_container
   one-container b table f = by (is_inline (kind_of tree b)) refl
     where
       full : List (Option Independent)
       full = fold (with_box tree w) table (outside_of tree b)
 
       more : IsMore table full
-      more = all-more b (outside_of tree b) table f.long f.served (outside-later b)
+      more = all-more b (outside_of tree b) table f.long f.served (outside-later tree b)
 
       skipped : is_inline (kind_of tree b) ≡ true → AllServed table b
       skipped e c l p i = elim (cases_eq c b) [
@@ -174,7 +180,7 @@ module _ (tree : BoxTree) (w : World) where
       whole : AllServed full b
       whole c l p i = elim (cases_eq c b) [
         | inl same ↦ subst (λ (x : ℕ). AllByRecursion (Served full) (outside_of tree x)) (sym same)
-            (all-right b (outside_of tree b) table f.long f.served (outside-later b) (outside-sound b (subst Sound same (own-sound c p i))))
+            (all-right b (outside_of tree b) table f.long f.served (outside-later tree b) (outside-sound b (subst Sound same (own-sound c p i))))
         | inr other ↦ let n : c ≢ b = other in still-served table full (suc b) more f.served c (omega arith) p i
       ]
 
@@ -206,7 +212,19 @@ module _ (tree : BoxTree) (w : World) where
   rendered l = (elim l as (λ _. Rendering ℤ) [ [] ↦ record { boxes = [] } | root ∷ rest ↦ record { boxes = (landed.whole_independent tree w 0 (pos (64 * w.w))).boxes } ]).boxes
 
   abbrev stepped : List BoxNode → List (Placed ℤ)
-  stepped l = elim l as (λ _. List (Placed ℤ)) [ [] ↦ [] | root ∷ rest ↦ (independent tree w (content_of tree w (laid_at whole_table)) 0 (pos (64 * w.w))).boxes ]
+  stepped l = elim l as (λ _. List (Placed ℤ)) [ [] ↦ [] | root ∷ rest ↦ (independent_of tree w (laid_at whole_table) 0 (pos (64 * w.w))).boxes ]
+
+  -- the root of a page that has boxes
+  pub root-boxes : 0 < length tree.boxes → (independent_of tree w (laid_at whole_table) 0 (pos (64 * w.w))).boxes ≡ page_boxes tree w
+  root-boxes some = by tree.boxes refl
+    where
+      by : (l : List BoxNode) → tree.boxes ≡ l → (independent_of tree w (laid_at whole_table) 0 (pos (64 * w.w))).boxes ≡ page_boxes tree w
+      by [] e = absurd (let none = ap (λ (l : List BoxNode). length l) e in omega arith)
+      by (x ∷ xs) e = sym (ap stepped e)
+
+  -- of one that has none
+  pub no-boxes : tree.boxes ≡ [] → [] ≡ page_boxes tree w
+  no-boxes e = sym (ap stepped e)
 
   pub page-same : (page_rendering tree w).boxes ≡ page_boxes tree w
   page-same = by tree.boxes refl
@@ -218,3 +236,20 @@ module _ (tree : BoxTree) (w : World) where
           ap rendered e
           ∙ ap (λ (a : Independent). a.boxes) (box-same whole_table 0 table-served 0 (pos (64 * w.w)) (omega arith) (record { page = page; room = sym root-room; block = root_no_inline tree }))
           ∙ sym (ap stepped e)
+
+-- ---- the table of more boxes
+
+-- after the box before the last so many
+pub next-table : (tree : BoxTree) (w : World) (before after : List (Option Independent)) (n b : ℕ) → b ≡ length tree.boxes - suc n → before ≡ table_to tree w n
+    → after ≡ with_container tree w before b → after ≡ table_to tree w (n + 1)
+unfolding table_to
+next-table tree w before after n b last is added =
+    let next : suc n ≡ n + 1 = omega arith in
+    added
+    ∙ ap (λ (t : List (Option Independent)). with_container tree w t b) is
+    ∙ ap (with_container tree w (table_to tree w n)) last
+    ∙ ap (table_to tree w) next
+
+pub first-table : (tree : BoxTree) (w : World) → replicate (length tree.boxes) None ≡ table_to tree w 0
+unfolding table_to
+first-table tree w = refl

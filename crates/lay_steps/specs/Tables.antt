@@ -11,7 +11,7 @@ use Rattle.layout_semantics.specs.FlowBoxes.{flow_children, content_from, room}
 use Rattle.layout_semantics.specs.Horizontal.{widths}
 use Rattle.layout_semantics.specs.InlineContent.{is_floated_at, has_line, inner_boxes}
 use Rattle.layout_semantics.specs.Flow.{Independent}
-use Rattle.lay_steps.specs.Flow.{independent, content_of}
+use Rattle.lay_steps.specs.Flow.{independent_of}
 
 -- what stands in a block container and not in its flow: the floats and
 -- atomic boxes of its lines, or the floats between its blocks
@@ -29,14 +29,16 @@ laid_at table k = unwrap_or (get_or table k None) nothing_independent
 
 module _ (tree : BoxTree) (w : World) where
   -- with one box more, laid out where its containing block is as wide as the tree says
-  abbrev pub with_box : List (Option Independent) → ℕ → List (Option Independent)
-  with_box table k =
-      set table k (Some (independent tree w (content_of tree w (laid_at table)) k (room tree w k)))
+  unfoldable pub with_box : List (Option Independent) → ℕ → List (Option Independent)
+  with_box table k = set table k (Some (independent_of tree w (laid_at table) k (room tree w k)))
+
+  abbrev pub with_boxes : List (Option Independent) → List ℕ → List (Option Independent)
+  with_boxes table ks = fold with_box table ks
 
   -- with those of a box; an inline box is no block container
-  abbrev pub with_container : List (Option Independent) → ℕ → List (Option Independent)
+  unfoldable pub with_container : List (Option Independent) → ℕ → List (Option Independent)
   with_container table b =
-      elim (is_inline (kind_of tree b)) [ true ↦ table | false ↦ fold with_box table (outside_of tree b) ]
+      elim (is_inline (kind_of tree b)) [ true ↦ table | false ↦ with_boxes table (outside_of tree b) ]
 
   -- the band that a box gives those in it, its margin edge being at `left`
   abbrev pub inside_of : ℤ → ℕ → Band ℤ
@@ -54,5 +56,4 @@ module _ (tree : BoxTree) (w : World) where
       by_boxes : List BoxNode → List (Placed ℤ)
       by_boxes [] = []
       by_boxes (root ∷ rest) =
-          (independent tree w (content_of tree w (laid_at (table_to (length tree.boxes)))) 0
-          (pos (64 * w.w))).boxes
+          (independent_of tree w (laid_at (table_to (length tree.boxes))) 0 (pos (64 * w.w))).boxes

@@ -168,6 +168,7 @@ floats-bottoms : (b : Bounds) (fs : List FloatBox) → AllByRecursion (IsFloatIn
 floats-bottoms b fs a = All-map (IsLevelIn b) (λ (f : FloatBox). f.box.bottom) fs (All-implied (IsFloatIn b) (λ f. IsLevelIn b f.box.bottom) fs (λ f i. i.bottom) a)
 
 pub context-bottom-in : (b : Bounds) (s : ℕ) (top : ℤ) (end : Context) → IsLevelIn b top → StandsIn b s end.standing → AllByRecursion (IsFloatIn b) end.floats → IsLevelIn (grown b (all_around (2 * s))) (top +ℤ context_height top end)
+unfolding context_height
 context-bottom-in b s top end l st fs =
     let wide = grown b (all_around (2 * s)) in
     let i = inside-grown b (all_around (2 * s)) in

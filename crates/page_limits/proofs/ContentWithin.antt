@@ -1,5 +1,5 @@
 -- What is in a box stays within bounds, its lines or its children, all the way down.
-use Rattle.std.proofs.Common.{◌≡◌, ℕ, zero, suc, ◌*◌, ◌<◌, ◌≤◌, ℤ, Bool, true, false, List, [], ◌∷◌, ◌++◌, map, fold, flat_map, cond, length, Option, Some, None, refl, sym, subst}
+use Rattle.std.proofs.Common.{◌≡◌, ℕ, zero, suc, ◌*◌, ◌<◌, ◌≤◌, ℤ, Bool, true, false, List, [], ◌∷◌, ◌++◌, fold, flat_map, cond, length, Option, Some, None, refl, sym, subst}
 use Rattle.std.specs.Prelude.{unwrap_or}
 use Rattle.std.specs.List.{AllByRecursion}
 use Rattle.std.specs.Option.{option_to_list}
@@ -13,17 +13,15 @@ use Rattle.viz_base.proofs.ListLemmas.{all_append}
 use Rattle.layout_semantics.specs.Flow.{Independent, raised}
 use Rattle.layout_semantics.specs.FlowBoxes.{flow_children, content_from}
 use Rattle.layout_semantics.specs.Horizontal.{widths}
-use Rattle.layout_semantics.specs.InlineContent.{has_line, inner_boxes, content}
+use Rattle.layout_semantics.specs.InlineContent.{has_line}
 use Rattle.layout_semantics.specs.LineHeights.{InlineContext}
-use Rattle.layout_semantics.specs.Lines.{LineList, lines_in}
-use Rattle.layout_semantics.specs.Lists.{table_of}
+use Rattle.layout_semantics.specs.Lines.{lines_in}
 use Rattle.layout_semantics.specs.Order.{IsOnPage}
 use Rattle.layout_laws.proofs.Levels.{IsFrom, All-implied}
 use Rattle.layout_laws.proofs.LeadLevels.{children-from}
-use Rattle.lay_line.proofs.Lays.{lines-are}
-use Rattle.lay_line.specs.steps.Laying.{lines_by_steps}
-use Rattle.lay_steps.specs.Flow.{Context, Step, Standing, at_top, below, inner_size, entry_boxes, line_tops, line_content, content_step, content_to, children, child}
+use Rattle.lay_steps.specs.Flow.{Context, Step, Standing, at_top, below, inner_table, entry_of, line_tops, lines_of, in_lines, content_step, content_to, children, child}
 use Rattle.lay_steps.proofs.Sound.{IsSound, flow-sound}
+use Rattle.lay_steps.proofs.StepCases.{step-lines, step-children}
 use Rattle.page_limits.specs.Bounds.{Bounds, grown, IsLevelIn, IsBandIn, IsPlacedIn}
 use Rattle.page_limits.specs.Inline.{IsContentSmall, IsEntryIn, AreLinesIn}
 use Rattle.page_limits.specs.Boxes.{IsWhole, IsBoxSmall, IsIndependentIn}
@@ -44,20 +42,21 @@ module _ (tree : BoxTree) (w : World) (own turned : ℕ → Bounds) (s t : ℕ) 
   IsContext b ks c = IsContextIn tree w own turned s t fine boxes apart independent_in b ks c
 
   -- the inline content of a box in so wide a containing block
-  abbrev pub line_context : ℕ → ℕ → ℤ → ℤ → InlineContext
-  line_context n k left wide = record {
+  abbrev pub line_context : ℕ → ℤ → ℤ → InlineContext
+  line_context k left wide = record {
     tree = tree;
     world = w;
     container = k;
-    inner = table_of (length tree.boxes) (map (λ j. (j, inner_size tree w (content_to tree w apart n) apart j)) (inner_boxes tree k));
+    inner = inner_table tree w apart k;
     cb = content_from left (widths tree w k wide);
   }
 
-  entries-placed : (content : ℕ → Band ℤ → ℤ → Context → Step) (b : Bounds) (es : List (Entry ℤ)) → AllByRecursion (IsEntryIn own b) es → AllByRecursion (IsPlacedIn b) (flat_map (entry_boxes tree w content apart) es)
-  entries-placed content b [] a = tt
-  entries-placed content b (of_entry.Here p ∷ es) a = (a.0, entries-placed content b es a.1)
-  entries-placed content b (of_entry.Goes k at ∷ es) a =
-      all_append (IsPlacedIn b) (entry_boxes tree w content apart (of_entry.Goes k at)) (flat_map (entry_boxes tree w content apart) es) (boxes-put b (own k) at (apart k).boxes a.0 (independent_in k).boxes) (entries-placed content b es a.1)
+  entries-placed : (b : Bounds) (es : List (Entry ℤ)) → AllByRecursion (IsEntryIn own b) es → AllByRecursion (IsPlacedIn b) (flat_map (entry_of tree w apart) es)
+  unfolding entry_of
+  entries-placed b [] a = tt
+  entries-placed b (of_entry.Here p ∷ es) a = (a.0, entries-placed b es a.1)
+  entries-placed b (of_entry.Goes k at ∷ es) a =
+      all_append (IsPlacedIn b) (entry_of tree w apart (of_entry.Goes k at)) (flat_map (entry_of tree w apart) es) (boxes-put b (own k) at (apart k).boxes a.0 (independent_in k).boxes) (entries-placed b es a.1)
 
   tops-in : (b : Bounds) (es : List (Entry ℤ)) → AllByRecursion (IsEntryIn own b) es → AllByRecursion (IsLevelIn b) (flat_map line_tops es)
   tops-in b [] a = tt
@@ -73,7 +72,7 @@ module _ (tree : BoxTree) (w : World) (own turned : ℕ → Bounds) (s t : ℕ) 
   raises-in b least (y ∷ ys) l a = raises-in b (raised least y) ys (raised-in b least y l a.0) a.1
 
   -- where the lines of each box are small
-  module _ (lines_small : (n k : ℕ) (left wide : ℤ) → IsSound tree w k wide → has_line tree k ≡ true → IsContentSmall (line_context n k left wide) own turned s) where
+  module _ (lines_small : (k : ℕ) (left wide : ℤ) → IsSound tree w k wide → has_line tree k ≡ true → IsContentSmall (line_context k left wide) own turned s) where
     abbrev pub IsInside : ℕ → ℕ → Type 0
     IsInside n k = (b : Bounds) (left wide top : ℤ) (c : Context) → IsSound tree w k wide → k < length tree.boxes → IsBandIn b (content_from left (widths tree w k wide)) → IsLevelIn b top → IsContext b (flow_children tree k) c
         → IsStep (grown b (content_rise tree own turned s k)) [] (content_to tree w apart n k (content_from left (widths tree w k wide)) top c)
@@ -82,17 +81,21 @@ module _ (tree : BoxTree) (w : World) (own turned : ℕ → Bounds) (s t : ℕ) 
     first-least b None top a l = l
     first-least b (Some y) top a l = a.0
 
-    pub lines-in-bounds : (n k : ℕ) (b : Bounds) (left wide top : ℤ) (c : Context) → IsSound tree w k wide → k < length tree.boxes → has_line tree k ≡ true → IsBandIn b (content_from left (widths tree w k wide)) → IsLevelIn b top
-        → IsContext b (flow_children tree k) c → IsStep (grown b (content_rise tree own turned s k)) [] (line_content tree w (content_to tree w apart n) apart k (content_from left (widths tree w k wide)) top c)
-    lines-in-bounds n k b left wide top c i l e band at h =
-        let x = line_context n k left wide in
+    pub lines-in-bounds : (k : ℕ) (b : Bounds) (left wide top : ℤ) (c : Context) → IsSound tree w k wide → k < length tree.boxes → has_line tree k ≡ true → IsBandIn b (content_from left (widths tree w k wide)) → IsLevelIn b top
+        → IsContext b (flow_children tree k) c → AreLinesIn own (grown b (content_rise tree own turned s k)) (lines_of tree w apart k (content_from left (widths tree w k wide)) top c)
+    unfolding lines_of
+    lines-in-bounds k b left wide top c i l e band at h =
+        let x = line_context k left wide in
+        subst (λ (r : Bounds). AreLinesIn own (grown b r) (lines_in x top (unwrap_or c.least top) c.floats)) (sym (rise-of-lines tree own turned s k l e))
+        (lines-within x own turned s (lines_small k left wide i e) b top (unwrap_or c.least top) c.floats band (at, (first-least b c.least top h.least at, tt)) h.floats)
+
+    lines-step : (k : ℕ) (b : Bounds) (left wide top : ℤ) (c : Context) → IsSound tree w k wide → k < length tree.boxes → has_line tree k ≡ true → IsBandIn b (content_from left (widths tree w k wide)) → IsLevelIn b top
+        → IsContext b (flow_children tree k) c → IsStep (grown b (content_rise tree own turned s k)) [] (in_lines tree w apart k (content_from left (widths tree w k wide)) top c)
+    unfolding in_lines
+    lines-step k b left wide top c i l e band at h =
         let most = grown b (content_rise tree own turned s k) in
-        let same = rise-of-lines tree own turned s k l e in
-        let all : AreLinesIn own most (lines_by_steps x top (unwrap_or c.least top) c.floats) =
-        subst (λ (ll : LineList). AreLinesIn own most ll) (sym (lines-are x top (unwrap_or c.least top) c.floats))
-        (subst (λ (r : Bounds). AreLinesIn own (grown b r) (lines_in x top (unwrap_or c.least top) c.floats)) (sym same)
-        (lines-within x own turned s (lines_small n k left wide i e) b top (unwrap_or c.least top) c.floats band (at, (first-least b c.least top h.least at, tt)) h.floats)) in
-        let lines = lines_by_steps x top (unwrap_or c.least top) c.floats in
+        let all = lines-in-bounds k b left wide top c i l e band at h in
+        let lines = lines_of tree w apart k (content_from left (widths tree w k wide)) top c in
         record {
           context = record {
             standing = (all.bottom, none-low s);
@@ -100,7 +103,7 @@ module _ (tree : BoxTree) (w : World) (own turned : ℕ → Bounds) (s t : ℕ) 
             least = raises-in most c.least (flat_map line_tops lines.entries) (levels-wider b most (option_to_list c.least) (inside-grown b (content_rise tree own turned s k)) h.least) (tops-in most lines.entries all.entries);
             baseline = all.baseline;
           };
-          placed = entries-placed (content_to tree w apart n) most lines.entries all.entries;
+          placed = entries-placed most lines.entries all.entries;
         }
 
     pub content-in : (n k : ℕ) → IsInside n k
@@ -120,17 +123,11 @@ module _ (tree : BoxTree) (w : World) (own turned : ℕ → Bounds) (s t : ℕ) 
         cb = content_from left (widths tree w k wide)
 
         by : (t : Bool) → has_line tree k ≡ t → ((j : ℕ) → IsInside n j) → IsStep (grown b (content_rise tree own turned s k)) [] (content_step tree w (content_to tree w apart n) apart k cb top c)
-        by true e again = subst (IsStep (grown b (content_rise tree own turned s k)) []) (sym (step-lines e)) (lines-in-bounds n k b left wide top c i l e band at h)
-          where
-            step-lines : has_line tree k ≡ true → content_step tree w (content_to tree w apart n) apart k cb top c ≡ line_content tree w (content_to tree w apart n) apart k cb top c
-            step-lines e = rw e refl
+        by true e again = subst (IsStep (grown b (content_rise tree own turned s k)) []) (sym (step-lines tree w (content_to tree w apart n) apart cb top c k e)) (lines-step k b left wide top c i l e band at h)
         by false e again =
-            subst (IsStep (grown b (content_rise tree own turned s k)) []) (sym (step-children e))
+            subst (IsStep (grown b (content_rise tree own turned s k)) []) (sym (step-children tree w (content_to tree w apart n) apart cb top c k e))
             (subst (λ (r : Bounds). IsStep (grown b r) [] (children (child tree w (content_to tree w apart n) apart cb top) c (flow_children tree k))) (sym (rise-of-kids tree own turned s k l e))
             (children-in tree w own turned s t fine boxes apart independent_in (content_to tree w apart n) b cb top c (flow_children tree k)
             (All-implied (IsFrom tree.boxes (suc k)) (λ j. IsInside n j) (flow_children tree k) (λ j f. again j) (children-from tree k))
             (All-implied (IsFrom tree.boxes (suc k)) (λ j. j < length tree.boxes) (flow_children tree k) (λ j f. f.within) (children-from tree k))
             (flow-sound tree w k left wide i) band at h))
-          where
-            step-children : has_line tree k ≡ false → content_step tree w (content_to tree w apart n) apart k cb top c ≡ children (child tree w (content_to tree w apart n) apart cb top) c (flow_children tree k)
-            step-children e = rw e refl

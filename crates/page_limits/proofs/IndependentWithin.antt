@@ -11,8 +11,9 @@ use Rattle.layout_semantics.specs.Order.{IsOnPage}
 use Rattle.layout_semantics.specs.Rectangles.{Frame, content_top, placed_box, border_width}
 use Rattle.layout_semantics.specs.Replaced.{replaced_size}
 use Rattle.layout_semantics.specs.Verticals.{verticals}
-use Rattle.lay_steps.specs.Flow.{Step, fresh, corner_frame, context_height, independent, content_of}
+use Rattle.lay_steps.specs.Flow.{Step, fresh, corner_of, replaced_of, root_of, context_height, replaced_independent, context_independent, content_of, independent_of}
 use Rattle.lay_steps.proofs.Sound.{IsSound}
+use Rattle.lay_steps.proofs.StepCases.{independent-replaced, independent-context}
 use Rattle.page_limits.specs.Bounds.{Bounds, AreInside, grown, all_around, IsLevelIn, IsBandIn, IsPlacedIn}
 use Rattle.page_limits.specs.Inline.{IsSmall, IsContentSmall}
 use Rattle.page_limits.specs.Boxes.{AreWidthsSmall, AreSidesSmall, IsWhole, IsBoxSmall, IsIndependentIn}
@@ -28,18 +29,19 @@ outer-small t x m l r wide h a b = omega (arith, ints, h, a, b)
 
 module _ (tree : BoxTree) (w : World) (own turned : ℕ → Bounds) (s t : ℕ) (fine : 8 * t ≤ s)
     (boxes : (k : ℕ) → IsOnPage tree.boxes k → IsWhole tree k → IsBoxSmall tree w t k) (apart : ℕ → Independent) (independent_in : (k : ℕ) → IsIndependentIn (own k) s (apart k))
-    (lines_small : (n k : ℕ) (left wide : ℤ) → IsSound tree w k wide → has_line tree k ≡ true
-    → IsContentSmall (line_context tree w own turned s t fine boxes apart independent_in n k left wide) own turned s) where
+    (lines_small : (k : ℕ) (left wide : ℤ) → IsSound tree w k wide → has_line tree k ≡ true
+    → IsContentSmall (line_context tree w own turned s t fine boxes apart independent_in k left wide) own turned s) where
   -- what a box can take in coordinates of its own
   abbrev pub independent_rise : ℕ → Bounds
   independent_rise k = grown (all_around (32 * (s + 1))) (content_rise tree own turned s k)
 
   -- its box and what is in it
-  pub whole-in : (k : ℕ) (wide h : ℤ) → IsSound tree w k wide → IsWhole tree k → let f = corner_frame tree w k wide in IsLevelIn (grown (all_around (24 * s)) (content_rise tree own turned s k)) (content_top f +ℤ h)
+  pub whole-in : (k : ℕ) (wide h : ℤ) → IsSound tree w k wide → IsWhole tree k → let f = corner_of tree w k wide in IsLevelIn (grown (all_around (24 * s)) (content_rise tree own turned s k)) (content_top f +ℤ h)
       → IsPlacedIn (independent_rise k) (placed_box tree k f h)
+  unfolding corner_of
   whole-in k wide h i q l =
       let box = boxes k i.page q in
-      let f = corner_frame tree w k wide in
+      let f = corner_of tree w k wide in
       let x = subst (λ (z : ℤ). AreWidthsSmall t (widths tree w k z)) (sym i.room) box.widths in
       let v = subst (λ (z : ℤ). AreSidesSmall t (verticals tree w k z)) (sym i.room) box.sides in
       let b = grown (all_around (24 * s)) (content_rise tree own turned s k) in
@@ -48,25 +50,28 @@ module _ (tree : BoxTree) (w : World) (own turned : ℕ → Bounds) (s t : ℕ) 
       box-wider (grown b (all_around (2 * s))) (independent_rise k) (placed_box tree k f h) (record { up = omega arith; down = omega arith; aside = omega arith })
       (placed-box-in s t fine b tree k f h x v (omega (arith, ml, fine)) (record { top = omega (arith, ints, mt, fine); bottom = omega (arith, ints, mt, fine) }) l)
 
-  pub width-in : (k : ℕ) (wide h : ℤ) → IsSound tree w k wide → IsWhole tree k → let p = placed_box tree k (corner_frame tree w k wide) h in IsSmall s (p.margin.right -ℤ p.margin.left)
+  pub width-in : (k : ℕ) (wide h : ℤ) → IsSound tree w k wide → IsWhole tree k → let p = placed_box tree k (corner_of tree w k wide) h in IsSmall s (p.margin.right -ℤ p.margin.left)
+  unfolding corner_of
   width-in k wide h i q =
-      let f = corner_frame tree w k wide in
+      let f = corner_of tree w k wide in
       let x = subst (λ (z : ℤ). AreWidthsSmall t (widths tree w k z)) (sym i.room) (boxes k i.page q).widths in
       let all = width-small t f.x.border_left f.x.padding_left f.x.content f.x.padding_right f.x.border_right x.border_left x.padding_left x.content x.padding_right x.border_right in
       let sum = outer-small t f.corner.x (pos 0) f.x.margin_left f.x.margin_right (border_width f.x) all x.margin_left x.margin_right in
       omega (arith, sum, fine)
 
-  pub height-in : (k : ℕ) (b : Bounds) (wide h : ℤ) → let p = placed_box tree k (corner_frame tree w k wide) h in IsPlacedIn b p → IsLevelIn b (p.margin.bottom -ℤ p.margin.top)
-  height-in k b wide h i = subst (IsLevelIn b) (same (verticals tree w k wide).margin_top (placed_box tree k (corner_frame tree w k wide) h).margin.bottom) i.margin.bottom
+  pub height-in : (k : ℕ) (b : Bounds) (wide h : ℤ) → let p = placed_box tree k (corner_of tree w k wide) h in IsPlacedIn b p → IsLevelIn b (p.margin.bottom -ℤ p.margin.top)
+  unfolding corner_of
+  height-in k b wide h i = subst (IsLevelIn b) (same (verticals tree w k wide).margin_top (placed_box tree k (corner_of tree w k wide) h).margin.bottom) i.margin.bottom
     where
       same : (m z : ℤ) → z ≡ z -ℤ (m -ℤ m)
       same m z = omega (arith, ints)
 
-  pub independent-within : (k : ℕ) (wide : ℤ) → IsSound tree w k wide → IsWhole tree k → k < length tree.boxes → IsIndependentIn (independent_rise k) s (independent tree w (content_of tree w apart) k wide)
+  pub independent-within : (k : ℕ) (wide : ℤ) → IsSound tree w k wide → IsWhole tree k → k < length tree.boxes → IsIndependentIn (independent_rise k) s (independent_of tree w apart k wide)
+  unfolding corner_of replaced_of root_of replaced_independent context_independent
   independent-within k wide i q l = by (is_replaced_at tree k) refl
     where
       f : Frame
-      f = corner_frame tree w k wide
+      f = corner_of tree w k wide
 
       box : IsBoxSmall tree w t k
       box = boxes k i.page q
@@ -118,16 +123,16 @@ module _ (tree : BoxTree) (w : World) (own turned : ℕ → Bounds) (s t : ℕ) 
           level-wider (grown more (all_around s)) (grown (all_around (24 * s)) (content_rise tree own turned s k)) (top +ℤ tall) (record { up = omega arith; down = omega arith; aside = omega arith })
           (clamped-in s t fine more top (context_height top end.context) tall (box.clamped (context_height top end.context)) (level-wider begin more top (record { up = omega arith; down = omega arith; aside = omega arith }) top_is) bottom)
 
-      by : (r : Bool) → is_replaced_at tree k ≡ r → IsIndependentIn (independent_rise k) s (independent tree w (content_of tree w apart) k wide)
+      by : (r : Bool) → is_replaced_at tree k ≡ r → IsIndependentIn (independent_rise k) s (independent_of tree w apart k wide)
       by true e =
           let h = (replaced_size tree w k wide).height in
           let high = subst (λ (z : ℤ). IsSmall t (replaced_size tree w k z).height) (sym i.room) box.replaced in
           let tt_ = top_is.top in let tb = top_is.bottom in
           let p = whole-in k wide h i q (record { top = omega (arith, ints, high, fine); bottom = omega (arith, ints, high, fine) }) in
-          rw e (record { width = width-in k wide h i q; height = height-in k (independent_rise k) wide h p; baseline = tt; boxes = (p, tt) })
+          subst (IsIndependentIn (independent_rise k) s) (sym (independent-replaced tree w (content_of tree w apart) k wide e)) (record { width = width-in k wide h i q; height = height-in k (independent_rise k) wide h p; baseline = tt; boxes = (p, tt) })
       by false e =
           let p = whole-in k wide tall i q low in
-          rw e (record {
+          subst (IsIndependentIn (independent_rise k) s) (sym (independent-context tree w (content_of tree w apart) k wide e)) (record {
             width = width-in k wide tall i q;
             height = height-in k (independent_rise k) wide tall p;
             baseline = levels-wider done (independent_rise k) _ wide_enough inside.context.baseline;

@@ -31,7 +31,7 @@ use Rattle.layout_semantics.specs.Order.{IsOnPage}
 use Rattle.layout_semantics.proofs.Pages.{forest, within-page}
 use Rattle.layout_laws.proofs.Greatest.{All-at}
 use Rattle.layout_laws.proofs.Levels.{IsFrom, All-implied, inner_boxes-from}
-use Rattle.lay_steps.specs.Flow.{content_to, inner_size}
+use Rattle.lay_steps.specs.Flow.{inner_size, inner_table}
 use Rattle.lay_steps.proofs.Sound.{IsSound}
 use Rattle.page_limits.specs.Bounds.{Bounds, IsLevelIn}
 use Rattle.page_limits.specs.Boxes.{IsBoxSmall, IsWhole, IsIndependentIn, IsPartOf, middle_of, IsInlineBoxSmall}
@@ -53,17 +53,18 @@ module _ (tree : BoxTree) (w : World) where
     above : IsLevelIn own i.above
     tall : i.above +ℤ i.below ≡ a.size.height
 
-  inner-of : (own : Bounds) (apart : ℕ → Independent) (n k : ℕ) → IsIndependentIn own greatest_length (apart k) → IsInnerOf own (apart k) (inner_size tree w (content_to tree w apart n) apart k)
-  inner-of own apart n k h = by (is_floated_at tree k || is_replaced_at tree k || own_of tree k (λ (s : Style). s.clips) false) (apart k).baseline refl refl h.baseline
+  inner-of : (own : Bounds) (apart : ℕ → Independent) (k : ℕ) → IsIndependentIn own greatest_length (apart k) → IsInnerOf own (apart k) (inner_size tree w apart k)
+  unfolding inner_size
+  inner-of own apart k h = by (is_floated_at tree k || is_replaced_at tree k || own_of tree k (λ (s : Style). s.clips) false) (apart k).baseline refl refl h.baseline
     where
       whole : (h z : ℤ) → z +ℤ (h -ℤ z) ≡ h
       whole h z = omega (arith, ints)
 
       by : (t : Bool) (o : Option ℤ) → (is_floated_at tree k || is_replaced_at tree k || own_of tree k (λ (s : Style). s.clips) false) ≡ t → (apart k).baseline ≡ o → AllByRecursion (IsLevelIn own) (option_to_list o)
-          → IsInnerOf own (apart k) (inner_size tree w (content_to tree w apart n) apart k)
-      by false (Some y) e f b = rw (e, f) (record { wide = refl; above = b.0; tall = whole (apart k).size.height y })
-      by false None e f b = rw (e, f) (record { wide = refl; above = h.height; tall = whole (apart k).size.height (apart k).size.height })
-      by true o e f b = rw e (record { wide = refl; above = h.height; tall = whole (apart k).size.height (apart k).size.height })
+          → IsInnerOf own (apart k) (inner_size tree w apart k)
+      by false (Some y) e f b = rw (e, f, inner_size) (record { wide = refl; above = b.0; tall = whole (apart k).size.height y })
+      by false None e f b = rw (e, f, inner_size) (record { wide = refl; above = h.height; tall = whole (apart k).size.height (apart k).size.height })
+      by true o e f b = rw (e, inner_size) (record { wide = refl; above = h.height; tall = whole (apart k).size.height (apart k).size.height })
 
   half-in : (b : Bounds) (h : ℤ) → IsLevelIn b h → IsLevelIn b (floor_of h 2)
   half-in b (pos n) l = let u = l.bottom in record { top = omega (arith, ints); bottom = omega (arith, ints) }
@@ -103,18 +104,18 @@ module _ (tree : BoxTree) (w : World) where
 
   module _ (t : ℕ) (fine : 8 * t ≤ greatest_length) (boxes : (k : ℕ) → IsOnPage tree.boxes k → IsWhole tree k → IsBoxSmall tree w t k) (terms : (k : ℕ) → IsOnPage tree.boxes k → IsInlineBoxSmall tree w t k)
       (raises : ℕ → ℕ) (raised : AreRaisedBy tree w raises) (few_raises : (k : ℕ) → IsOnPage tree.boxes k → raises k ≤ t)
-      (own : ℕ → Bounds) (apart : ℕ → Independent) (independent_in : (k : ℕ) → IsIndependentIn (own k) greatest_length (apart k)) (n k : ℕ) (left wide : ℤ) (sound : IsSound tree w k wide) where
+      (own : ℕ → Bounds) (apart : ℕ → Independent) (independent_in : (k : ℕ) → IsIndependentIn (own k) greatest_length (apart k)) (k : ℕ) (left wide : ℤ) (sound : IsSound tree w k wide) where
     abbrev turned : ℕ → Bounds
     turned = turned_of tree w apart own
 
     abbrev c : InlineContext
-    c = line_context tree w own turned greatest_length t fine boxes apart independent_in n k left wide
+    c = line_context tree w own turned greatest_length t fine boxes apart independent_in k left wide
 
     abbrev inside : ℤ
     inside = (widths tree w k wide).content
 
     abbrev inner_at : ℕ → Inner ℤ
-    inner_at j = inner_size tree w (content_to tree w apart n) apart j
+    inner_at j = inner_size tree w apart j
 
     raise-small : (at : ℕ) → IsOnPage tree.boxes at → IsInLines tree k at → IsSmall t (inline_shift c at)
     raise-small at p l =
@@ -168,7 +169,7 @@ module _ (tree : BoxTree) (w : World) where
     font-small at p = let a = (terms at p).ascent in let d = (terms at p).descent in record { ascent = omega (arith, a, fine); descent = omega (arith, d, fine) }
 
     no-inner : (at : ℕ) → sort_of tree at ≡ an_inline → inner_of c at ≡ None
-    unfolding IsNoInline
+    unfolding IsNoInline inner_table
     no-inner at e = not-clamped inner_at at (length tree.boxes) (inner_boxes tree k) (λ a. All-at (IsNoInline tree w) (inner_boxes tree k) at (no-inlines tree w inside (content tree k) (content-items tree w k wide sound)) a e)
 
     inline-small : (at : ℕ) → IsIn tree w inside at → IsInLines tree k at → sort_of tree at ≡ an_inline → IsInlineSmall c own turned greatest_length at
@@ -202,18 +203,19 @@ module _ (tree : BoxTree) (w : World) where
     width-small at part p q = let x = (terms at p).text part q in omega (arith, x, fine)
 
     inner-clamped : (at : ℕ) → IsOnPage tree.boxes at → Contains (inner_boxes tree k) at → inner_of c at ≡ Some (inner_at at)
+    unfolding inner_table
     inner-clamped at p a = clamped inner_at at (length tree.boxes) (inner_boxes tree k) (within-page tree at p) a
 
     atom-width : (at : ℕ) → IsOnPage tree.boxes at → Contains (inner_boxes tree k) at → IsSmall greatest_length (item_width c (atomic at))
     atom-width at p a =
-        let i = inner-of (own at) apart n at (independent_in at) in
+        let i = inner-of (own at) apart at (independent_in at) in
         let w_ = (independent_in at).width in
         subst (λ (o : Option (Inner ℤ)). unsigned_abs (option_map_or (λ (j : Inner ℤ). j.width) o (pos 0)) ≤ greatest_length) (sym (inner-clamped at p a))
         (subst (λ (z : ℤ). unsigned_abs z ≤ greatest_length) (sym i.wide) w_)
 
     float-small : (at : ℕ) → IsOnPage tree.boxes at → Contains (inner_boxes tree k) at → IsFloatSmall c own turned greatest_length at
     float-small at p a =
-        let i = inner-of (own at) apart n at (independent_in at) in
+        let i = inner-of (own at) apart at (independent_in at) in
         let w_ = (independent_in at).width in
         let h = (independent_in at).height in
         let same : float_size c at ≡ sized (inner_at at).width ((inner_at at).above +ℤ (inner_at at).below) = ap (λ (o : Option (Inner ℤ)). option_map_or (λ (j : Inner ℤ). sized j.width (j.above +ℤ j.below)) o (sized (pos 0) (pos 0))) (inner-clamped at p a) in
@@ -228,7 +230,7 @@ module _ (tree : BoxTree) (w : World) where
     -- by its own middle, or by its baseline
     atom-in : (at : ℕ) → IsOnPage tree.boxes at → IsInLines tree k at → Contains (inner_boxes tree k) at → (at == k) ≡ false → IsAtomIn (own at) (turned at) greatest_length (extent_in_line c at)
     atom-in at p l a apart_is =
-        let i = inner-of (own at) apart n at (independent_in at) in
+        let i = inner-of (own at) apart at (independent_in at) in
         let e : LineExtent = made (inner_at at).above (inner_at at).below in
         let same : box_extent c at ≡ e = ap (λ (o : Option (Inner ℤ)). option_map_or (λ (j : Inner ℤ). made j.above j.below) o (inline_extent tree w (node_of tree at))) (inner-clamped at p a) in
         subst (λ (z : LineExtent). IsAtomIn (own at) (turned at) greatest_length (made (z.above +ℤ shift c at z) (z.below -ℤ shift c at z))) (sym same)

@@ -26,7 +26,7 @@ use Rattle.layout_laws.proofs.Greatest.{filter-passes}
 use Rattle.layout_laws.proofs.Levels.{IsFrom, All-implied, inner_boxes-from}
 use Rattle.layout_laws.proofs.Members.{any_in, any_from}
 use Rattle.layout_laws.proofs.LeadLevels.{children-from}
-use Rattle.lay_steps.specs.Flow.{content_of, inner_size}
+use Rattle.lay_steps.specs.Flow.{inner_size}
 use Rattle.lay_steps.specs.Tables.{outside_of, laid_at, nothing_independent}
 use Rattle.lay_steps.proofs.Sound.{IsSound, inner_boxes-sound, flow-sound}
 use Rattle.lay_steps.proofs.InOrder.{box_before, whole_no_inline}
@@ -74,7 +74,7 @@ base_of tree w apart k = by_align (own tree k (λ (s : Style). s.valign) of_vali
   where
     by_align : Valign → ℤ
     by_align of_valign.Middle = floor_of (apart k).size.height 2
-    by_align _ = (inner_size tree w (content_of tree w apart) apart k).above
+    by_align _ = (inner_size tree w apart k).above
 
 -- how far that is above the top, where it is
 abbrev pub turn_of : BoxTree → World → (ℕ → Independent) → (ℕ → Bounds) → ℕ → ℕ
@@ -91,8 +91,8 @@ turned_of tree w apart own k = record {
 
 module _ (tree : BoxTree) (w : World) (t : ℕ) (fine : 8 * t ≤ greatest_length)
     (boxes : (k : ℕ) → IsOnPage tree.boxes k → IsWhole tree k → IsBoxSmall tree w t k)
-    (lines_small : (own : ℕ → Bounds) (apart : ℕ → Independent) (independent_in : (k : ℕ) → IsIndependentIn (own k) greatest_length (apart k)) (n k : ℕ) (left wide : ℤ) → IsSound tree w k wide → has_line tree k ≡ true
-    → IsContentSmall (line_context tree w own (turned_of tree w apart own) greatest_length t fine boxes apart independent_in n k left wide) own (turned_of tree w apart own) greatest_length) where
+    (lines_small : (own : ℕ → Bounds) (apart : ℕ → Independent) (independent_in : (k : ℕ) → IsIndependentIn (own k) greatest_length (apart k)) (k : ℕ) (left wide : ℤ) → IsSound tree w k wide → has_line tree k ≡ true
+    → IsContentSmall (line_context tree w own (turned_of tree w apart own) greatest_length t fine boxes apart independent_in k left wide) own (turned_of tree w apart own) greatest_length) where
   abbrev pub right : ℕ → Independent
   right k = landed.independent tree w (landed.flow tree w) k (room tree w k)
 

@@ -75,7 +75,7 @@ module _ (tree : BoxTree) (w : World) (root_whole : IsWhole tree 0) (boxes : (k 
       → AllByRecursion (IsPlacedIn (all_around (2 ^ 70))) (whole_independent tree w 0 (room tree w 0)).boxes
   root-within p l m =
       let k = known-in tree w (2 ^ 42) (omega arith) (λ k p q. box-small tree w (2 ^ 42) k (boxes k p q))
-      (λ own apart independent_in n k left wide i e. content-small tree w (2 ^ 42) (omega arith) (λ k p q. box-small tree w (2 ^ 42) k (boxes k p q)) terms raises.raises raises.each raises.all own apart independent_in n k left wide i) 0 (record { page = p; room = refl; block = root_no_inline tree }, root_whole) in
+      (λ own apart independent_in k left wide i e. content-small tree w (2 ^ 42) (omega arith) (λ k p q. box-small tree w (2 ^ 42) k (boxes k p q)) terms raises.raises raises.each raises.all own apart independent_in k left wide i) 0 (record { page = p; room = refl; block = root_no_inline tree }, root_whole) in
       let size = k.few in
       let all = few tree l m in
       boxes-wider k.own (all_around (2 ^ 70)) (whole_independent tree w 0 (room tree w 0)).boxes (record { up = omega (arith, size, all); down = omega (arith, size, all); aside = omega (arith, size, all) }) k.inside.boxes

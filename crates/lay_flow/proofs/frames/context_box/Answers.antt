@@ -11,7 +11,7 @@ use Rattle.lay_flow.specs.Fits.{IsHeightFit, IsNear}
 use Rattle.lay_flow.specs.Readings.{context_at}
 use Rattle.lay_flow.proofs.Framed.{top-fits, top-near, top-small, known-tall, content-tall, tall-small, place-fits}
 use Rattle.lay_flow.proofs.frames.context_box.Goals.{in-Some, in-None}
-use Rattle.lay_flow.specs.steps.Flow.{root_of}
+use Rattle.lay_steps.specs.Flow.{root_of}
 use Rattle.lay_flow.proofs.frames.context_box.Goals as goal
 
 pub returns : goal.returns

@@ -9,7 +9,7 @@ use Rattle.lay_flow.specs.Low.{IsFrameLow}
 use Rattle.lay_flow.specs.Fits.{IsReplacedFit}
 use Rattle.lay_flow.proofs.Framed.{place-fits}
 use Rattle.lay_flow.proofs.Sizes.{wider}
-use Rattle.lay_flow.specs.steps.Flow.{replaced_of}
+use Rattle.lay_steps.specs.Flow.{replaced_of}
 use Rattle.lay_flow.proofs.frames.replaced_box.Goals as goal
 
 pub returns : goal.returns

@@ -10,11 +10,11 @@ use Rattle.lay_flow.specs.Fits.{IsNear}
 use Rattle.lay_flow.specs.Readings.{context_at}
 use Rattle.lay_flow.proofs.Framed.{next-edge-near}
 use Rattle.lay_flow.proofs.Sizes.{near-difference}
-use Rattle.lay_flow.specs.steps.Flow.{tall_of}
+use Rattle.lay_steps.specs.Flow.{context_height}
 use Rattle.lay_flow.proofs.heights.context_height.Goals as goal
 
 pub returns : goal.returns
-unfolding tall_of
+unfolding context_height
 returns g c =
     let at = g.S.Steady.at in
     let top = c.args.top.now in

@@ -12,7 +12,7 @@ use Rattle.lay_line.proofs.Found.{all-next, all-from}
 use Rattle.page_limits.specs.Bounds.{IsFloatIn}
 use Rattle.lay_flow.specs.Low.{reach}
 use Rattle.lay_flow.specs.Fits.{IsNear}
-use Rattle.lay_flow.specs.steps.Flow.{lowest_of}
+use Rattle.lay_steps.specs.Flow.{lowest_of}
 use Rattle.lay_flow.proofs.Sizes.{level-near, near-difference, zero-fits}
 use Rattle.lay_flow.proofs.heights.lowest.Goals as goal
 

@@ -6,7 +6,7 @@ use Rattle.page_limits.specs.Bounds.{IsFloatIn}
 use Rattle.lay_flow.specs.Low.{reach}
 use Rattle.lay_flow.specs.Fits.{IsNear}
 use Rattle.lay_float.specs.Readings.{boxes_at}
-use Rattle.lay_flow.specs.steps.Flow.{lowest_of}
+use Rattle.lay_steps.specs.Flow.{lowest_of}
 use Rattle.lay_flow.proofs.heights.lowest.Given as goal
 
 -- the last ones so far

@@ -11,7 +11,7 @@ use Rattle.lay_flow.specs.IndependentFits.{RootFits}
 use Rattle.lay_flow.specs.Fits.{IsNear, near}
 use Rattle.lay_flow.specs.Low.{IsAsideLow, IsContextLow}
 use Rattle.lay_flow.specs.Readings.{apart_at, context_at}
-use Rattle.lay_flow.specs.steps.Flow.{root_of}
+use Rattle.lay_steps.specs.Flow.{root_of}
 use Rattle.lay_flow.proofs.Around.{band-fits, kept-fits}
 use Rattle.lay_flow.proofs.Framed.{top-fits, top-near}
 use Rattle.lay_flow.proofs.Givens.{first_at, more, more_at}

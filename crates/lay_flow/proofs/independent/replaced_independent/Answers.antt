@@ -8,11 +8,11 @@ use Rattle.lay_line.proofs.Chains.{start_but_mem, next_but_mem, but_mem}
 use Rattle.page_limits.specs.Bounds.{IsQuadIn}
 use Rattle.lay_flow.specs.Low.{IsFrameLow}
 use Rattle.lay_flow.specs.Fits.{IsReplacedFit, near}
-use Rattle.lay_flow.specs.steps.Flow.{replaced_of}
+use Rattle.lay_steps.specs.Flow.{replaced_of}
 use Rattle.lay_flow.proofs.Framed.{margin-near}
 use Rattle.lay_flow.proofs.Sizes.{wider}
 use Rattle.lay_frame.proofs.Slots.{no_boxes}
-use Rattle.lay_flow.specs.steps.Flow.{replaced_independent}
+use Rattle.lay_steps.specs.Flow.{replaced_independent}
 use Rattle.lay_flow.proofs.independent.replaced_independent.Goals as goal
 
 pub returns : goal.returns

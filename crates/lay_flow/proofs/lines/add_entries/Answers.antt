@@ -9,7 +9,7 @@ use Rattle.lay_line.proofs.Chains.{ChainButMem, next_but_mem}
 use Rattle.lay_flow.specs.Low.{AreApartLow}
 use Rattle.lay_flow.specs.Fits.{IsEntryLow}
 use Rattle.lay_flow.specs.Readings.{apart_at}
-use Rattle.lay_flow.specs.steps.Flow.{entry_of}
+use Rattle.lay_steps.specs.Flow.{entry_of}
 use Rattle.lay_flow.proofs.InLines.{one-added, none-added}
 use Rattle.lay_flow.proofs.lines.add_entries.Goals as goal
 

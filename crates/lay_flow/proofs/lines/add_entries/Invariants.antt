@@ -7,7 +7,7 @@ use Rattle.lay_flow.specs.Fits.{IsEntryLow}
 use Rattle.lay_frame.specs.Readings.{boxes_at}
 use Rattle.lay_line.specs.Readings.{entries_at}
 use Rattle.lay_flow.specs.Readings.{apart_at}
-use Rattle.lay_flow.specs.steps.Flow.{entry_of}
+use Rattle.lay_steps.specs.Flow.{entry_of}
 use Rattle.lay_flow.proofs.lines.add_entries.Given as goal
 
 abbrev pub invariant-loop-entry : goal.invariant-loop-entry

@@ -5,7 +5,7 @@ use Rattle.lay_line.specs.Contexts.{table_at}
 use Rattle.lay_line.proofs.Chains.{Chain, next}
 use Rattle.lay_flow.specs.Low.{AreApartLow}
 use Rattle.lay_flow.specs.Readings.{apart_at}
-use Rattle.lay_flow.specs.steps.Flow.{filled_table}
+use Rattle.lay_steps.specs.Flow.{filled_table}
 use Rattle.lay_flow.proofs.InLines.{one-number, one-set}
 use Rattle.lay_flow.proofs.lines.fill.Goals as goal
 

@@ -4,7 +4,7 @@ use Rattle.viz_calc.specs.Run.{Goes, Blames}
 use Rattle.lay_flow.specs.Low.{AreApartLow}
 use Rattle.lay_line.specs.Contexts.{table_at}
 use Rattle.lay_flow.specs.Readings.{apart_at}
-use Rattle.lay_flow.specs.steps.Flow.{filled_table}
+use Rattle.lay_steps.specs.Flow.{filled_table}
 use Rattle.lay_flow.proofs.lines.fill.Given as goal
 
 abbrev pub invariant-loop-at : goal.invariant-loop-at

@@ -17,7 +17,7 @@ use Rattle.lay_flow.specs.Fits.{IsEntryLow, IsNear}
 use Rattle.lay_flow.specs.Low.{AreLevelsLow}
 use Rattle.lay_flow.specs.WalkFits.{InLinesFit}
 use Rattle.std.specs.List.{AllByRecursion}
-use Rattle.lay_flow.specs.steps.Flow.{entry_of}
+use Rattle.lay_steps.specs.Flow.{entry_of}
 use Rattle.lay_flow.proofs.InLines.{lines-placed, context-after, boxes-after}
 use Rattle.lay_flow.proofs.lines.in_lines.Goals as goal
 

@@ -7,11 +7,11 @@ use Rattle.lay_flow.specs.Low.{IsIndependentLow, IsLevelLow, AreLevelsLow}
 use Rattle.lay_flow.specs.Readings.{independent_at, apart_at}
 use Rattle.lay_flow.proofs.Sizes.{aside-fits, level-fits, level-near, near-difference}
 use Rattle.lay_flow.proofs.lines.inner_of.Goals.{in-Some, in_default-baseline}
-use Rattle.lay_flow.specs.steps.Flow.{inner_of}
+use Rattle.lay_steps.specs.Flow.{inner_size}
 use Rattle.lay_flow.proofs.lines.inner_of.Goals as goal
 
 pub returns-after-independent : goal.returns-after-independent
-unfolding apart_at inner_of
+unfolding apart_at inner_size
 returns-after-independent g c = record {
   goes = grind (arith, common_steps);
   value = grind (arith, common_steps);

@@ -4,9 +4,10 @@ use Rattle.viz_calc.proofs.Runs.{Goes-then, BlamesButMem-then}
 use Rattle.layout_semantics.specs.Flow.{Independent}
 use Rattle.lay_flow.specs.IndependentFits.{BoxesAddedFit}
 use Rattle.lay_flow.specs.Readings.{table_at}
-use Rattle.lay_flow.specs.steps.Flow.{with_boxes}
+use Rattle.lay_steps.specs.Tables.{with_boxes}
 use Rattle.lay_flow.proofs.Givens.{boxes-later}
-use Rattle.lay_flow.proofs.KidSteps.{others-hold, boxes-next, added-next}
+use Rattle.lay_steps.proofs.KidSteps.{others-hold, boxes-next}
+use Rattle.lay_flow.proofs.KidSteps.{added-next}
 use Rattle.lay_flow.proofs.page.add_boxes.Goals as goal
 
 pub loop-k-preserved : goal.loop-k-preserved

@@ -4,7 +4,7 @@ use Rattle.viz_calc.specs.World.{Reading}
 use Rattle.viz_calc.specs.Run.{Goes, BlamesButMem}
 use Rattle.lay_preferred.specs.Readings.{AreFound}
 use Rattle.lay_flow.specs.Readings.{table_at}
-use Rattle.lay_flow.specs.steps.Flow.{with_boxes}
+use Rattle.lay_steps.specs.Tables.{with_boxes}
 use Rattle.lay_flow.specs.IndependentFits.{BoxesAddedFit}
 use Rattle.lay_flow.specs.WalkFits.{AllFit}
 use Rattle.lay_flow.proofs.page.add_boxes.Given as goal

@@ -8,7 +8,7 @@ use Rattle.layout_semantics.specs.Blocks.{kind_of}
 use Rattle.lay_flow.specs.IndependentFits.{BoxesAddedFit, ContainerFits}
 use Rattle.lay_flow.specs.Readings.{table_at}
 use Rattle.lay_flow.proofs.Givens.{first}
-use Rattle.lay_flow.proofs.TableFacts.{outside-within}
+use Rattle.lay_steps.proofs.Tables.{outside-within}
 use Rattle.lay_flow.proofs.page.add_container.Goals as goal
 
 pub add_boxes-requires-clause-within : goal.add_boxes-requires-clause-within

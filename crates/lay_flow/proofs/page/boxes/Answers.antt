@@ -12,7 +12,7 @@ use Rattle.lay_steps.specs.Tables.{laid_at}
 use Rattle.lay_flow.specs.IndependentFits.{IndependentFits, PageComesFit}
 use Rattle.lay_flow.specs.Readings.{apart_at, table_at}
 use Rattle.lay_flow.proofs.Givens.{first, more, more_at}
-use Rattle.lay_flow.proofs.TableSteps.{no-boxes}
+use Rattle.lay_steps.proofs.Tables.{no-boxes}
 use Rattle.lay_flow.proofs.TableFacts.{page-laid}
 use Rattle.lay_flow.proofs.page.boxes.Goals as goal
 

@@ -3,7 +3,8 @@ use Rattle.viz_calc.proofs.Runs.{Goes-then, BlamesButMem-then}
 use Rattle.lay_flow.specs.IndependentFits.{ContainerFits}
 use Rattle.lay_flow.specs.Readings.{table_at}
 use Rattle.lay_flow.proofs.Givens.{boxes-later}
-use Rattle.lay_flow.proofs.TableFacts.{next-table, first-table, table-none}
+use Rattle.lay_flow.proofs.TableFacts.{table-none}
+use Rattle.lay_steps.proofs.Tables.{next-table, first-table}
 use Rattle.lay_flow.proofs.page.fill.Goals as goal
 
 pub loop-done-init : goal.loop-done-init

@@ -3,7 +3,7 @@ use Rattle.viz_calc.specs.World.{Reading}
 use Rattle.viz_calc.specs.Run.{Goes, BlamesButMem}
 use Rattle.lay_preferred.specs.Readings.{AreFound}
 use Rattle.lay_flow.specs.Readings.{table_at}
-use Rattle.lay_flow.specs.steps.Flow.{table_to}
+use Rattle.lay_steps.specs.Tables.{table_to}
 use Rattle.lay_flow.specs.IndependentFits.{TableFits}
 use Rattle.lay_flow.specs.WalkFits.{AllFit}
 use Rattle.lay_flow.proofs.page.fill.Given as goal

@@ -12,11 +12,11 @@ use Rattle.lay_steps.specs.Forward.{Found, cleared_of}
 use Rattle.lay_flow.specs.Low.{IsRunLow}
 use Rattle.lay_flow.specs.Readings.{apart_at, context_at, standing_at, cleared_at, found_at}
 use Rattle.lay_flow.specs.WayFits.{ForwardFits, FromFits, StandingFits, ReachFits}
-use Rattle.lay_flow.specs.steps.Flow.{forward_of}
+use Rattle.lay_steps.specs.Flow.{forward_of}
 use Rattle.lay_flow.proofs.LeadsLow.{level-small, edge-small}
-use Rattle.lay_flow.proofs.Reaches.{below-found}
+use Rattle.lay_steps.proofs.Reaches.{below-found}
 use Rattle.lay_flow.proofs.Sizes.{ends-fit, value-fits, zero-fits}
-use Rattle.lay_flow.specs.steps.Flow.{reached_of}
+use Rattle.lay_steps.specs.Flow.{reached_of}
 use Rattle.lay_flow.proofs.reached.reach.Goals as goal
 
 pub returns-in-Below : goal.returns-in-Below

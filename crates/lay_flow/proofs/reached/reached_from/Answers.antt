@@ -9,9 +9,9 @@ use Rattle.lay_flow.specs.Low.{IsClearedLow}
 use Rattle.lay_flow.specs.Readings.{apart_at, context_at, cleared_at, found_at}
 use Rattle.lay_flow.specs.WayFits.{ForwardFits, FromFits}
 use Rattle.lay_flow.proofs.LeadsLow.{level-small}
-use Rattle.lay_flow.proofs.Reaches.{itself-found}
+use Rattle.lay_steps.proofs.Reaches.{itself-found}
 use Rattle.lay_flow.proofs.Sizes.{zero-fits}
-use Rattle.lay_flow.specs.steps.Flow.{reached_from}
+use Rattle.lay_steps.specs.Flow.{reached_from}
 use Rattle.lay_flow.proofs.reached.reached_from.Goals as goal
 
 pub returns-then-cleared-b : goal.returns-then-cleared-b

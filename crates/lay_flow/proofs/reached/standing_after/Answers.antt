@@ -9,7 +9,7 @@ use Rattle.lay_margin.specs.Runs.{run_at}
 use Rattle.lay_flow.specs.Low.{IsBandLow, IsLevelLow, IsRunLow}
 use Rattle.lay_flow.specs.Fits.{IsNear}
 use Rattle.lay_flow.proofs.Sizes.{aside-near, level-near, near-difference, ends-fit, run-near, value-fits}
-use Rattle.lay_flow.specs.steps.Flow.{standing_after}
+use Rattle.lay_steps.specs.Flow.{standing_after}
 use Rattle.lay_flow.proofs.reached.standing_after.Goals as goal
 
 pub returns-then-reached : goal.returns-then-reached

@@ -6,7 +6,7 @@ use Rattle.lay_line.proofs.Chains.{start, next}
 use Rattle.lay_flow.specs.Low.{IsFrameLow}
 use Rattle.lay_flow.specs.Fits.{IsNear}
 use Rattle.lay_flow.proofs.Framed.{top-fits, top-near}
-use Rattle.lay_flow.specs.steps.Flow.{standing_in}
+use Rattle.lay_steps.specs.Flow.{standing_in}
 use Rattle.lay_flow.proofs.reached.standing_in.Goals as goal
 
 pub returns-else-is_open_above : goal.returns-else-is_open_above

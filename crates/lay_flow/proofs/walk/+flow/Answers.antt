@@ -10,21 +10,21 @@ use Rattle.layout_semantics.specs.InlineContent.{has_line, holds_inline, is_floa
 use Rattle.layout_semantics.specs.Rectangles.{Frame, content_top}
 use Rattle.lay_frame.specs.Readings.{boxes_at, frame_at}
 use Rattle.lay_margin.proofs.Kids.{flow-kids}
-use Rattle.lay_steps.specs.Flow.{Context, Met, Step, fresh, met}
+use Rattle.lay_steps.specs.Flow.{Context, Met, Step, fresh, met, without_boxes}
 use Rattle.lay_margin.specs.Runs.{run_at}
 use Rattle.lay_flow.specs.Fits.{IsNear, IsReplacedFit}
 use Rattle.lay_flow.specs.Low.{IsContextLow, IsFrameLow, IsLevelLow, IsRunLow}
 use Rattle.lay_flow.specs.WalkFits.{WalkFits, before_content, before_children, before_child, before_flow, when_reached, when_starting, when_going_on}
-use Rattle.lay_flow.specs.steps.Flow.{block_of, child_of, children_of, laid_of, opened, root_of, standing_after, standing_in}
-use Rattle.lay_flow.specs.Readings.{apart_at, context_at, ending_at, laid_with, met_at, standing_at, cleared_at, without_boxes}
+use Rattle.lay_steps.specs.Flow.{block_of, child_of, children_of, laid_of, opened, root_of, standing_after, standing_in}
+use Rattle.lay_flow.specs.Readings.{apart_at, context_at, ending_at, laid_with, met_at, standing_at, cleared_at}
 use Rattle.lay_flow.proofs.Around.{inline_size-fits, band-fits, kept-fits}
-use Rattle.lay_flow.proofs.ContentCases.{by-lines, by-children}
+use Rattle.lay_steps.proofs.Levels.{by-lines, by-children}
 use Rattle.lay_flow.proofs.Framed.{top-fits, top-near}
 use Rattle.lay_flow.proofs.Givens.{boxes-later, first, first_at, more, more_at}
-use Rattle.lay_flow.proofs.KidSteps.{kids-next}
+use Rattle.lay_steps.proofs.KidSteps.{kids-next}
 use Rattle.lay_flow.proofs.Sizes.{zero-fits, level-fits}
 use Rattle.lay_flow.proofs.Walks.{content-walk, kid-walk, child-walk, flow-walk, laid-walk, start-walk, go-on-walk, content-moved, end-moved}
-use Rattle.lay_flow.proofs.WalkSteps.{flow-context}
+use Rattle.lay_steps.proofs.WalkSteps.{flow-context}
 use Rattle.lay_flow.proofs.walk.+flow.Goals as goal
 
 pub content-returns-then-has_line-clause-context : goal.content-returns-then-has_line-clause-context

@@ -5,7 +5,7 @@ use Rattle.viz_calc.specs.Renderings.{band_at}
 use Rattle.lay_frame.specs.Readings.{boxes_at}
 use Rattle.lay_float.specs.Agreement.{Agree}
 use Rattle.lay_flow.specs.Readings.{apart_at, context_at}
-use Rattle.lay_flow.specs.steps.Flow.{children_of}
+use Rattle.lay_steps.specs.Flow.{children_of}
 use Rattle.lay_flow.specs.WalkFits.{AllFit, WalkFits, before_children}
 use Rattle.lay_flow.proofs.walk.+flow.Given as goal
 

@@ -14,7 +14,7 @@ use Rattle.lay_flow.specs.Readings.{apart_at, context_at}
 use Rattle.lay_flow.proofs.Framed.{next-edge-small}
 use Rattle.lay_flow.proofs.Sizes.{wider, greater, near-fits}
 use Rattle.lay_flow.proofs.Spots.{place-half, spot-near, spot-lent, half-lent}
-use Rattle.lay_flow.proofs.WalkSteps.{float-context, float-boxes}
+use Rattle.lay_steps.proofs.WalkSteps.{float-context, float-boxes}
 use Rattle.lay_flow.proofs.walk.float.Goals as goal
 
 pub place_float-spot-requires : goal.place_float-spot-requires

@@ -10,7 +10,7 @@ use Rattle.lay_float.specs.Readings.{option_at}
 use Rattle.lay_line.proofs.Chains.{start_but_mem, next_but_mem, but_mem}
 use Rattle.lay_flow.specs.Low.{AreLevelsLow, IsFrameLow}
 use Rattle.lay_flow.specs.Fits.{IsNear, IsReplacedFit}
-use Rattle.lay_flow.specs.steps.Flow.{replaced_of}
+use Rattle.lay_steps.specs.Flow.{replaced_of}
 use Rattle.lay_flow.proofs.Framed.{top-fits, top-near, border-small}
 use Rattle.lay_flow.proofs.Sizes.{wider, fit, zero-fits}
 use Rattle.lay_flow.proofs.walk.lay_replaced.Goals as goal

@@ -3,7 +3,7 @@ use Rattle.std.specs.Option.{option_or}
 use Rattle.lay_float.specs.Readings.{option_at}
 use Rattle.lay_steps.specs.Flow.{Context}
 use Rattle.lay_flow.specs.Readings.{context_at}
-use Rattle.lay_flow.specs.steps.Flow.{opened, left}
+use Rattle.lay_steps.specs.Flow.{opened, left}
 use Rattle.lay_flow.proofs.walk.leave.Goals as goal
 
 pub returns : goal.returns

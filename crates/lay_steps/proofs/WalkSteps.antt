@@ -9,9 +9,7 @@ use Rattle.viz_base.specs.declared.worlds.World.{World}
 use Rattle.layout_semantics.specs.Floats.{FloatBox, floating, float_spot, with_float_at}
 use Rattle.layout_semantics.specs.Flow.{Independent}
 use Rattle.layout_semantics.specs.Rectangles.{shifted}
-use Rattle.lay_steps.specs.Flow.{Standing, Context, Laid, Met, met, next_edge}
-use Rattle.lay_flow.specs.Readings.{without_boxes}
-use Rattle.lay_flow.specs.steps.Flow.{Ending, ending_of, float_of, reached_of, laid_of, standing_after, in_flow}
+use Rattle.lay_steps.specs.Flow.{Standing, Context, Ending, Laid, Met, met, next_edge, without_boxes, float_of, reached_of, laid_of, standing_after, flow_child, in_flow}
 
 module _ (tree : BoxTree) (w : World) (apart : ℕ → Independent) (cb : Band ℤ) (top : ℤ) (s : Context) (k : ℕ) where
   -- where a float stands, by what was found of its size and of the place where it comes
@@ -46,15 +44,15 @@ module _ (tree : BoxTree) (w : World) (apart : ℕ → Independent) (cb : Band �
 
   abbrev done : Met → Context
   done m = record (laid_of tree w apart cb s b m.reached).after.context {
-    standing = standing_after tree w cb s.standing b m (ending_of (laid_of tree w apart cb s b m.reached));
+    standing = standing_after tree w cb s.standing b m (laid_of tree w apart cb s b m.reached).ending;
   }
 
   pub flow-context : (m : Met) (l : Laid) (before after : Standing) → m ≡ reached_of tree w apart cb s b → l ≡ without_boxes (laid_of tree w apart cb s b m.reached)
-      → before ≡ s.standing → after ≡ standing_after tree w cb before b (met (record m.reached { cleared = None }) m.run) (ending_of l)
+      → before ≡ s.standing → after ≡ standing_after tree w cb before b (met (record m.reached { cleared = None }) m.run) l.ending
       → record l.after.context { standing = after } ≡ (in_flow tree w apart cb s b).context
-  unfolding in_flow
+  unfolding flow_child
   flow-context m l before after is laid same next =
       ap (λ (x : Standing). record l.after.context { standing = x })
-      (next ∙ after-same before m (ending_of l) ∙ ap (λ (x : Standing). standing_after tree w cb x b m (ending_of l)) same)
-      ∙ ap (λ (x : Laid). record x.after.context { standing = standing_after tree w cb s.standing b m (ending_of x) }) laid
+      (next ∙ after-same before m l.ending ∙ ap (λ (x : Standing). standing_after tree w cb x b m l.ending) same)
+      ∙ ap (λ (x : Laid). record x.after.context { standing = standing_after tree w cb s.standing b m x.ending }) laid
       ∙ ap done is
