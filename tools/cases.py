@@ -230,7 +230,7 @@ def selectors(case):
 
 
 def matches(case):
-    return [job_of(case["page"]), [selector for selector, _ in case["test_cases"]]], [nodes for _, nodes in case["test_cases"]]
+    return [job_of(case["page"]), [selector for selector, _ in case["cases"]]], [nodes for _, nodes in case["cases"]]
 
 
 def decimals(case):

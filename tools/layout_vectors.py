@@ -8,13 +8,13 @@ crates viz_base and layout_semantics and a crate `vectors`. Each case becomes a 
 both sides; the check is run, and each line of cases is told to agree or not. The status is 0 where all agree.
 
 VECTORS/functions.jsonl and VECTORS/trees.jsonl are JSON Lines. A line of functions.jsonl has a `call` and, for the calls that look at a
-page, `tree`, `height` (px), `w`, `s` and `test_cases`:
+page, `tree`, `height` (px), `w`, `s` and `cases`:
   used       [length, containing width, value]
   fonts      [node, font size, line height, ascent, descent], and `words`: [node, text, width]
   widths     [box, containing width, [margin, border, padding, content, padding, border, margin]]
   preferred  [box, least, most]
   lead       [box, containing width, box before which none is cleared or null, margins, floats, end]
-Others have no `test_cases`; floats are a list of [side, left, top, right, bottom]:
+Others have no `cases`; floats are a list of [side, left, top, right, bottom]:
   float_at   `floats`, `side`, `size`, `cb`, `top`, `spot`
   band       `floats`, `cb`, `y`, `h`, `band`
   bottom     `floats`, `clear`, `bottom`
