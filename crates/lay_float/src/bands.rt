@@ -8,11 +8,11 @@ ghost use Rattle.lay_float.specs.Readings.{box_at, boxes_at};
 ghost use Rattle.lay_float.specs.steps.Bands.{meets_between, narrowed, room_beside, room_from, is_relevant_side, lower, lowest_from};
 ghost use Rattle.lay_float.specs.steps.Lent.{lent_at, room_at};
 
-use crate::extremes::{larger, smaller, tighter};
+use crate::extremes::tighter;
 use crate::floats::PlacedFloat;
 use crate::shelves::facing;
 use viz_base::{Band, Clear, Side};
-use viz_calc::Steady;
+use viz_calc::{Steady, larger, smaller};
 
 /// The stretch between two vertical edges.
 #[derive(Drop)]

@@ -17,12 +17,11 @@ ghost use Rattle.lay_float.specs.steps.Shelves.{spot_on, ahead_of};
 
 use crate::bands::{any_between, room_between};
 use crate::brackets::free_place;
-use crate::extremes::larger;
 use crate::floats::{Floats, PlacedFloat};
 use crate::shelves::{Place, open_from};
 use std::alloc::Global;
 use viz_base::{Band, Clear, Extent, List, Quad, Side, Spot};
-use viz_calc::Steady;
+use viz_calc::{Steady, larger};
 
 /// The highest top that the order of floats allows (CSS 2.1, 9.5.1, rules 4 to 6).
 fn highest_top<'a, S: Steady>(

@@ -1,29 +1,12 @@
 ghost use Rattle.std.specs.Prelude.{◌≡◌, ⊤, IsTrue, true, is_some};
 ghost use Rattle.viz_calc.specs.State.{WhereOpen};
-ghost use Rattle.std.specs.Int.{int_max, int_min};
 ghost use Rattle.viz_calc.specs.World.{Reading};
 ghost use Rattle.viz_calc.specs.Run.{Goes, Blames, Lays};
 ghost use Rattle.lay_float.specs.steps.Lent.{lent_at};
 ghost use Rattle.lay_float.specs.steps.Shelves.{innermost, tighter};
 
 use viz_base::Side;
-use viz_calc::Steady;
-
-/// The greater of two numbers.
-pub fn larger<'a, S: Steady>(calc: &mut S, a: &'a S::Num, b: &'a S::Num) -> &'a S::Num
-    ensures { Lays S.run calc.old calc.new (S.at result.now)
-        (λ e. int_max (S.at a.now e) (S.at b.now e)) (λ e. ⊤) }
-{
-    if calc.le(a, b) { b } else { a }
-}
-
-/// The lesser of two numbers.
-pub fn smaller<'a, S: Steady>(calc: &mut S, a: &'a S::Num, b: &'a S::Num) -> &'a S::Num
-    ensures { Lays S.run calc.old calc.new (S.at result.now)
-        (λ e. int_min (S.at a.now e) (S.at b.now e)) (λ e. ⊤) }
-{
-    if calc.le(a, b) { a } else { b }
-}
+use viz_calc::{Steady, larger, smaller};
 
 /// Of two edges that face the content from this side, the one that leaves less of it.
 pub fn innermost<'a, S: Steady>(

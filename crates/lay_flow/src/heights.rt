@@ -21,11 +21,11 @@ use lay_margin::Run;
 use lay_margin::engine::{empty, value};
 use lay_margin::leads::copy_run;
 use lay_width::heights::{definite_height, height_around};
-use lay_width::limits::{greater, hold};
+use lay_width::limits::hold;
 use lay_width::properties::{intrinsic, least_height, most_height, own_height};
 use lay_width::replaced::by_ratio;
 use viz_base::Length;
-use viz_calc::Steady;
+use viz_calc::{Steady, greater};
 
 /// A height of a box, where it is definite; what is around the box is asked for by percentages alone (CSS 2.1, 10.5).
 fn height_of<S: Steady>(

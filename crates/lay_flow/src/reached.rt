@@ -27,10 +27,9 @@ use lay_margin::Run;
 use lay_margin::engine::{empty, value};
 use lay_margin::leads::{copy_run, join_bottom};
 use lay_margin::trees::is_open_above;
-use lay_width::limits::{greater, lesser};
 use std::alloc::Global;
 use viz_base::{Band, BoxTree, List};
-use viz_calc::Steady;
+use viz_calc::{Steady, greater, lesser};
 
 /// The way forward from a box, with its run.
 #[derive(Drop)]

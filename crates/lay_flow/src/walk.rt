@@ -31,11 +31,10 @@ use lay_margin::contents::{collapses_through, floats_in, has_line, holds_inline}
 use lay_margin::engine::empty;
 use lay_margin::leads::{content_between, inline_size, join};
 use lay_margin::trees::{is_replaced, kids_at, starts_context};
-use lay_width::limits::greater;
 use lay_width::properties::floats_at;
 use std::alloc::Global;
 use viz_base::{Band, Placed};
-use viz_calc::Steady;
+use viz_calc::{Steady, greater};
 
 /// A context where nothing stands yet.
 pub fn fresh<S: Steady>(alloc: Global, calc: &mut S, top: &S::Num) -> Context<S::Num>

@@ -27,10 +27,9 @@ use crate::loads::Load;
 use crate::meeting::{Met, Slot, floats_of, place_each};
 use lay_float::engine::band;
 use lay_float::{Floats, PlacedFloat};
-use lay_width::limits::greater;
 use std::alloc::Global;
 use viz_base::{Band, Entry, List, Spot};
-use viz_calc::Steady;
+use viz_calc::{Steady, greater};
 
 /// What lines leave to the next one, in units of 1/64 px.
 #[derive(Drop)]

@@ -6,8 +6,7 @@ ghost use Rattle.layout_semantics.specs.LineHeights.{height_of_extent};
 ghost use Rattle.lay_line.specs.Readings.{line_extent_at};
 ghost use Rattle.lay_line.specs.steps.Filling.{with_extent as extent_with};
 
-use lay_width::limits::greater;
-use viz_calc::Steady;
+use viz_calc::{Steady, greater};
 
 /// How far something reaches above and below a baseline, in units of 1/64 px.
 #[derive(Drop)]

@@ -28,10 +28,9 @@ use crate::leaps::{Guess, leap_on};
 use crate::meeting::{Met, Slot, fits, floats_of, meet_each};
 use crate::segments::Segments;
 use crate::shifts::{reach, strut};
-use lay_width::limits::greater;
 use std::alloc::{AllocError, Global};
 use viz_base::BoxTree;
-use viz_calc::Steady;
+use viz_calc::{Steady, greater};
 
 #[tactic(auto, unfolding(crate::specs::steps::Loading::with_reach))]
 /// As far as a box more reaches.

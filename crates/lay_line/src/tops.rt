@@ -12,8 +12,7 @@ use crate::containers::Container;
 use crate::meeting::fits;
 use lay_float::PlacedFloat;
 use lay_float::engine::meets_any;
-use lay_width::limits::lesser;
-use viz_calc::Steady;
+use viz_calc::{Steady, lesser};
 
 /// A place that is wanted for a line, in units of 1/64 px.
 #[derive(Drop)]

@@ -1,45 +1,18 @@
 //! Runs of margins over any arithmetic that goes on after a halt.
 ghost use Rattle.std.specs.Prelude.{◌≡◌, ℤ, pos, List, [], ◌∷◌};
-ghost use Rattle.std.specs.Int.{int_max, int_min};
 ghost use Rattle.viz_calc.specs.State.{AllSmall, WhereOpen};
 ghost use Rattle.viz_calc.specs.Run.{Stands, Goes, Fits, Blames, Lays};
 ghost use Rattle.layout_semantics.specs.Margins.{collapsed};
 ghost use Rattle.lay_margin.specs.Runs.{run_at, no_run, IsRunOf, with_margin, collapse, joined_way, value_way};
 
 use crate::Run;
-use viz_calc::Steady;
+use viz_calc::{Steady, larger, smaller};
 
 /// The number 0.
 fn zero<S: Steady>(calc: &mut S) -> S::Num
     ensures { Lays S.run calc.old calc.new (S.at result) (λ e. pos 0) (λ e. AllSmall (pos 0 ∷ [])) }
 {
     calc.lit(0)
-}
-
-/// The greater of two numbers.
-fn greater<S: Steady>(calc: &mut S, a: &S::Num, b: &S::Num) -> S::Num
-    ensures { Lays S.run calc.old calc.new (S.at result)
-        (λ e. int_max (S.at a.now e) (S.at b.now e))
-        (λ e. AllSmall (int_max (S.at a.now e) (S.at b.now e) ∷ [])) }
-{
-    if calc.le(b, a) {
-        calc.copy(a)
-    } else {
-        calc.copy(b)
-    }
-}
-
-/// The lesser of two numbers.
-fn lesser<S: Steady>(calc: &mut S, a: &S::Num, b: &S::Num) -> S::Num
-    ensures { Lays S.run calc.old calc.new (S.at result)
-        (λ e. int_min (S.at a.now e) (S.at b.now e))
-        (λ e. AllSmall (int_min (S.at a.now e) (S.at b.now e) ∷ [])) }
-{
-    if calc.le(a, b) {
-        calc.copy(a)
-    } else {
-        calc.copy(b)
-    }
 }
 
 /// The run of no margins.
@@ -66,8 +39,10 @@ pub fn joined<S: Steady>(calc: &mut S, run: &Run<S::Num>, margin: &S::Num) -> Ru
     ensures cause { Blames (S.run calc.old) (S.run calc.new)
         (Fits (S.run calc.old) (λ e. joined_way (run_at S.at run.now e) (S.at margin.now e))) }
 {
-    let pos = greater(calc, &run.pos, margin);
-    let neg = lesser(calc, &run.neg, margin);
+    let pos = larger(calc, &run.pos, margin);
+    let pos = calc.copy(pos);
+    let neg = smaller(calc, &run.neg, margin);
+    let neg = calc.copy(neg);
     Run { pos, neg }
 }
 

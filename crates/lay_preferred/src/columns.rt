@@ -9,9 +9,8 @@ ghost use Rattle.lay_preferred.specs.steps.Columns.{no_children as none_of, besi
 
 use crate::extremes::{larger, or_zero};
 use lay_length::lengths::zero;
-use lay_width::limits::greater;
 use viz_base::Preferred;
-use viz_calc::Steady;
+use viz_calc::{Steady, greater};
 
 /// The greatest widths of children so far, in units of 1/64 px.
 #[derive(Drop)]

@@ -5,8 +5,7 @@ ghost use Rattle.lay_width.specs.Readings.{option_at};
 ghost use Rattle.lay_preferred.specs.steps.Extremes.{larger as larger_of, or_zero as of_or_zero};
 
 use lay_length::lengths::zero;
-use lay_width::limits::greater;
-use viz_calc::Steady;
+use viz_calc::{Steady, greater};
 
 /// A number, or a greater one that was there.
 pub fn larger<S: Steady>(calc: &mut S, best: Option<S::Num>, width: S::Num) -> S::Num

@@ -17,13 +17,12 @@ ghost use Rattle.lay_width.specs.steps.Terms.{fixed_around, filled_block, given_
 ghost use Rattle.lay_width.specs.steps.Terms.{around as around_of};
 
 use crate::clamping::{again, clamped};
-use crate::limits::lesser;
 use crate::properties::{Placing, is_auto, margins, own_width, placed_as};
 use crate::replaced;
 use crate::terms::{around, edges, fixed, room};
 use lay_length::lengths::used;
 use viz_base::{BoxTree, Length, Preferred, Widths};
-use viz_calc::Steady;
+use viz_calc::{Steady, lesser};
 
 /// The terms of a block of a fixed width around which these edges are, its margins automatic or not.
 fn fixed_block<S: Steady>(

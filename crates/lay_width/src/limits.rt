@@ -1,28 +1,12 @@
-//! The greater and the lesser of two numbers.
+//! A length between its minimum and its maximum (CSS 2.1, 10.4, 10.7).
 ghost use Rattle.std.specs.Prelude.{⊤};
-ghost use Rattle.std.specs.Int.{int_max, int_min};
+ghost use Rattle.std.specs.Int.{int_min};
 ghost use Rattle.std.specs.Option.{option_map_or};
 ghost use Rattle.viz_calc.specs.Run.{Lays};
 ghost use Rattle.layout_semantics.specs.Lengths.{clamped};
 ghost use Rattle.lay_width.specs.Readings.{option_at};
 
-use viz_calc::Steady;
-
-/// The lesser of two numbers.
-pub fn lesser<S: Steady>(calc: &mut S, a: S::Num, b: S::Num) -> S::Num
-    ensures { Lays S.run calc.old calc.new (S.at result) (λ e. int_min (S.at a e) (S.at b e))
-        (λ e. ⊤) }
-{
-    if calc.le(&a, &b) { a } else { b }
-}
-
-/// The greater of two numbers.
-pub fn greater<S: Steady>(calc: &mut S, a: S::Num, b: S::Num) -> S::Num
-    ensures { Lays S.run calc.old calc.new (S.at result) (λ e. int_max (S.at a e) (S.at b e))
-        (λ e. ⊤) }
-{
-    if calc.le(&b, &a) { a } else { b }
-}
+use viz_calc::{Steady, greater, lesser};
 
 /// A length that is above its maximum becomes that.
 pub fn no_more<S: Steady>(calc: &mut S, most: Option<S::Num>, length: S::Num) -> S::Num
