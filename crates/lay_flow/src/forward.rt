@@ -33,15 +33,17 @@ use crate::parts::{Base, Cleared, End, Going, Page, Tries};
 use lay_float::PlacedFloat;
 use lay_float::engine::bottom;
 use lay_float::trial::{Coming, Trial, begin, go_on};
-use lay_line::trees::{clear_at, side_at};
 use lay_margin::Run;
-use lay_margin::contents::{collapses_through, enters, floats_in, holds_inline};
 use lay_margin::engine::value;
-use lay_margin::leads::{band_inside, copy_band, copy_run, join_bottom, join_top, lead, stops_at};
-use lay_margin::trees::{kids_at, own_clear, stands_clear};
-use lay_width::properties::{floats_at, parent_at};
+use lay_margin::leads::{
+    band_inside, copy_band, copy_run, enters, join_bottom, join_top, lead, stops_at,
+};
+use lay_tree::adjoining::{clear_in_flow, collapses_through};
+use lay_tree::boxes::{children, is_floated};
+use lay_tree::contents::{floats_in, holds_inline};
+use lay_tree::styles::{clear, float_side};
 use std::alloc::Global;
-use viz_base::{Band, BoxTree, Clear, Extent, List, Waiting};
+use viz_base::{Band, BoxTree, Extent, List, Waiting};
 use viz_calc::Steady;
 
 /// What a way forward starts from.
@@ -70,20 +72,6 @@ fn edge<S: Steady>(calc: &mut S, base: &Base<S::Num>, run: &Run<S::Num>) -> S::N
         }
         Base::Stands(edge) => calc.copy(edge),
     }
-}
-
-#[tactic(auto, unfolding(layout_semantics::specs::FlowBoxes::clear_of))]
-/// `clear` as it works on a box in flow; on the root it has no effect (CSS 2.1, 9.5.2).
-fn clear_in_flow(tree: &BoxTree, b: u32) -> Clear
-    ensures { result ≡ clear_of tree.now b }
-{
-    if parent_at(tree, b).is_none() {
-        return Clear::Nothing;
-    }
-    if stands_clear(tree, b) {
-        return Clear::Both;
-    }
-    own_clear(tree, b)
 }
 
 #[tactic(auto, unfolding(lay_steps::specs::Forward::hypothetical_edge))]
@@ -125,8 +113,8 @@ fn coming<'a, N>(tree: &BoxTree, float: &'a Waiting<N>, size: &'a Extent<N>) -> 
         ≡ floating tree.now float.now.at (extent_at at size.now e) (band_at at float.now.cb e) }
 {
     Coming {
-        side: side_at(tree, float.at),
-        clear: clear_at(tree, float.at),
+        side: float_side(tree, float.at),
+        clear: clear(tree, float.at),
         size,
         cb: &float.cb,
     }
@@ -518,7 +506,7 @@ fn content<S: Steady>(
 {
     let tree = way.page.tree;
     if !holds_inline(tree, b) {
-        return kids(alloc, calc, way, band, b, kids_at(tree, b), going);
+        return kids(alloc, calc, way, band, b, children(tree, b), going);
     }
     match floats_in(alloc, tree, b) {
         Ok(floats) => kids(alloc, calc, way, band, b, floats.as_slice(), going),
@@ -578,7 +566,7 @@ fn kid<S: Steady>(
         (λ e. KidFitsAt S.at way.now e (band_at S.at band.now e) k (run_at S.at going.old.run e)
         (waiting_all S.at going.old.waiting e)) }
 {
-    if floats_at(way.page.tree, k) {
+    if is_floated(way.page.tree, k) {
         // Where the run of margins ends is not known yet, so neither is the top of a float between them.
         wait(calc, band, k, &mut going.waiting);
         return End::GoesOn;

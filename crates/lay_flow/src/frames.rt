@@ -16,14 +16,14 @@ ghost use Rattle.lay_flow.specs.Fits.{IsHeightFit, IsReplacedFit, IsShapeFit};
 
 use crate::heights::{block_height, clamped, context_height, known_height, replaced_height};
 use crate::parts::{Context, Page};
-use lay_frame::boxes::joins_last_child;
 use lay_frame::frames::{Shape, content_top, verticals};
 use lay_frame::places::place;
 use lay_margin::leads::inline_size;
 use lay_preferred::engine::preferred;
 use lay_preferred::found::nothing_found;
+use lay_tree::adjoining::joins_last_child;
+use lay_tree::placings::{Placing, placed_as};
 use lay_width::engine::{block, replaced_block, replaced_shrunk, shrunk};
-use lay_width::properties::{Placing, placed_as};
 use std::alloc::Global;
 use viz_base::{Band, Placed, Spot, Widths};
 use viz_calc::Steady;

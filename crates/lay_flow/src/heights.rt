@@ -20,9 +20,10 @@ use lay_length::lengths::{percentage, zero};
 use lay_margin::Run;
 use lay_margin::engine::{empty, value};
 use lay_margin::leads::copy_run;
+use lay_tree::boxes::intrinsic_size;
+use lay_tree::styles::{max_height, min_height, own_height};
 use lay_width::heights::{definite_height, height_around};
 use lay_width::limits::hold;
-use lay_width::properties::{intrinsic, least_height, most_height, own_height};
 use lay_width::replaced::by_ratio;
 use viz_base::Length;
 use viz_calc::{Steady, greater};
@@ -67,11 +68,11 @@ pub fn clamped<S: Steady>(calc: &mut S, page: &Page<'_, S::Num>, b: u32, height:
         (λ e. clamped_height page.now.tree.now e.world b (S.at height e))
         (λ e. IsHeightFit page.now.tree.now e.world b) }
 {
-    let most = match most_height(page.tree, b) {
+    let most = match max_height(page.tree, b) {
         Some(most) => height_of(calc, page, b, &most),
         None => None,
     };
-    let least = match height_of(calc, page, b, &least_height(page.tree, b)) {
+    let least = match height_of(calc, page, b, &min_height(page.tree, b)) {
         Some(least) => least,
         None => zero(calc),
     };
@@ -93,7 +94,7 @@ pub fn replaced_height<S: Steady>(
         Some(height) => height,
         None => {
             let width = lay_width::replaced::width(calc, page.tree, b, room);
-            let size = intrinsic(page.tree, b);
+            let size = intrinsic_size(page.tree, b);
             by_ratio(calc, &width, size.0, size.1)
         }
     };

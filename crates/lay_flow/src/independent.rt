@@ -28,11 +28,11 @@ use lay_frame::frames::{Shape, content_top, verticals};
 use lay_frame::lists::{append, keep, put};
 use lay_length::lengths::zero;
 use lay_margin::leads::content_between;
-use lay_margin::trees::is_replaced;
 use lay_preferred::engine::preferred;
 use lay_preferred::found::Found;
+use lay_tree::boxes::{is_replaced, kind, parent};
+use lay_tree::placings::{Placing, placed_as};
 use lay_width::engine::{block, replaced_block, replaced_shrunk, shrunk};
-use lay_width::properties::{Placing, kind_at, parent_at, placed_as};
 use std::alloc::Global;
 use viz_base::{BoxTree, Extent, Kind, Placed, Spot, Widths};
 use viz_calc::Steady;
@@ -89,11 +89,11 @@ pub fn room<S: Steady>(
     if levels == 0 {
         return calc.width();
     }
-    match parent_at(tree, b) {
+    match parent(tree, b) {
         Some(parent) => {
             let around = room(alloc, calc, tree, found, levels - 1, parent);
             // An inline box is no containing block of what is in it (10.1).
-            if matches!(kind_at(tree, parent), Kind::Inline) {
+            if matches!(kind(tree, parent), Kind::Inline) {
                 return around;
             }
             widths(alloc, calc, tree, found, parent, &around).content

@@ -1,14 +1,12 @@
 //! Lines in the flow (CSS 2.1, 9.4.2), with the floats and atomic boxes on them.
-ghost use Rattle.std.specs.Prelude.{◌≡◌, ◌<◌, ◌++◌, false, fold, length, replicate, slice_set, unwrap_or, Some, None, IfOk, IsTrue};
+ghost use Rattle.std.specs.Prelude.{◌≡◌, ◌<◌, ◌++◌, fold, length, replicate, slice_set, unwrap_or, Some, None, IfOk, IsTrue};
 ghost use Rattle.viz_calc.specs.State.{WhereOpen};
 ghost use Rattle.std.specs.List.{flat_map, AllByRecursion};
-ghost use Rattle.viz_base.specs.declared.styles.Style.{Style as StyleOf};
 ghost use Rattle.viz_calc.specs.World.{Reading};
 ghost use Rattle.viz_calc.specs.Run.{Goes, BlamesButMem, Lays, LaysButMem};
 ghost use Rattle.viz_calc.specs.Renderings.{band_at};
 ghost use Rattle.layout_semantics.specs.Flow.{raised as raised_of};
 ghost use Rattle.layout_semantics.specs.InlineContent.{inner_boxes as inner_of_box, inner_items};
-ghost use Rattle.layout_semantics.specs.Lengths.{own};
 ghost use Rattle.layout_semantics.specs.Lists.{room_for as room_of};
 ghost use Rattle.lay_frame.specs.Readings.{boxes_at};
 ghost use Rattle.lay_float.specs.Agreement.{Agree};
@@ -34,9 +32,9 @@ use lay_line::containers::Container;
 use lay_line::content::content;
 use lay_line::items::Item;
 use lay_line::lining::{Laid, lines};
-use lay_margin::trees::is_replaced;
 use lay_preferred::places::places;
-use lay_width::properties::{floats_at, own_style};
+use lay_tree::boxes::{is_floated, is_replaced};
+use lay_tree::styles::clips;
 use std::alloc::{AllocError, Global};
 use viz_base::{Band, BoxTree, Entry, Inner, Kind, Placed};
 use viz_calc::Steady;
@@ -63,16 +61,6 @@ pub fn inner_boxes(alloc: Global, tree: &BoxTree, b: u32) -> Result<Vec<u32>, Al
     inner_boxes_of(alloc, items.as_slice())
 }
 
-/// Whether a box clips its content.
-fn clips(tree: &BoxTree, b: u32) -> bool
-    ensures { result ≡ own tree.now b (λ (s : StyleOf). s.clips) false }
-{
-    match own_style(tree, b) {
-        Some(style) => style.clips,
-        None => false,
-    }
-}
-
 #[tactic(auto, unfolding(lay_steps::specs::Flow::inner_size, crate::specs::Readings::apart_at))]
 /// What a float or an atomic box takes on a line.
 fn inner_of<S: Steady>(calc: &mut S, page: &Page<'_, S::Num>, at: u32) -> Inner<S::Num>
@@ -85,7 +73,7 @@ fn inner_of<S: Steady>(calc: &mut S, page: &Page<'_, S::Num>, at: u32) -> Inner<
             let width = calc.copy(&independent.size.width);
             let above = match &independent.baseline {
                 Some(baseline)
-                    if !floats_at(page.tree, at)
+                    if !is_floated(page.tree, at)
                         && !is_replaced(page.tree, at)
                         && !clips(page.tree, at) => { calc.copy(baseline) }
                 // Floats and replaced boxes have no baseline, and one that clips counts by its margin edge

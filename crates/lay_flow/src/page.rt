@@ -19,11 +19,10 @@ ghost use Rattle.lay_steps.specs.Tables.{with_box, with_boxes, with_container as
 use crate::independent::{independent, room};
 use crate::lines::inner_boxes;
 use crate::parts::{Independent, Page};
-use lay_margin::contents::{floats_in, has_line, holds_inline};
-use lay_margin::trees::kids_at;
 use lay_preferred::found::{Found, nothing_found};
 use lay_preferred::places::places;
-use lay_width::properties::{floats_at, kind_at};
+use lay_tree::boxes::{children, is_floated, kind};
+use lay_tree::contents::{floats_in, has_line, holds_inline};
 use std::alloc::{AllocError, Global};
 use viz_base::{BoxTree, Kind, List, Placed, Rendering};
 use viz_calc::Steady;
@@ -34,7 +33,7 @@ fn floated(alloc: Global, tree: &BoxTree, boxes: &[u32]) -> Result<Vec<u32>, All
 {
     let mut floats = Vec::new(alloc);
     for at in boxes {
-        if floats_at(tree, *at) {
+        if is_floated(tree, *at) {
             floats.push(*at)?;
         }
     }
@@ -52,7 +51,7 @@ fn outside_of(alloc: Global, tree: &BoxTree, b: u32) -> Result<Vec<u32>, AllocEr
     }
     // Floats between blocks are children of the container; those in lines are among its items.
     if !holds_inline(tree, b) {
-        return floated(alloc, tree, kids_at(tree, b));
+        return floated(alloc, tree, children(tree, b));
     }
     let floats = floats_in(alloc, tree, b)?;
     floated(alloc, tree, floats.as_slice())
@@ -150,7 +149,7 @@ fn add_container<S: Steady>(
         (λ e. ContainerFits tree.now e.world (table_at S.at table.old.places.items e) b)) }
 {
     // What is in an inline box stands among the items of the block container around it.
-    if matches!(kind_at(tree, b), Kind::Inline) {
+    if matches!(kind(tree, b), Kind::Inline) {
         return;
     }
     match outside_of(alloc, tree, b) {

@@ -26,7 +26,7 @@ use lay_frame::frames::{Shape, content_top};
 use lay_margin::Run;
 use lay_margin::engine::{empty, value};
 use lay_margin::leads::{copy_run, join_bottom};
-use lay_margin::trees::is_open_above;
+use lay_tree::adjoining::is_open_above;
 use std::alloc::Global;
 use viz_base::{Band, BoxTree, List};
 use viz_calc::{Steady, greater, lesser};

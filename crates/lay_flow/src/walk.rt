@@ -22,16 +22,15 @@ use crate::lines::in_lines;
 use crate::parts::{Cleared, Context, Laid, Page};
 use crate::reached::{below, copy_standing, is_at_top, open, reach, standing_after, standing_in};
 use lay_float::Floats;
-use lay_frame::boxes::joins_last_child;
 use lay_frame::frames::{Shape, content_top};
 use lay_frame::lists::{append, keep, put};
 use lay_line::floating::place_float;
 use lay_margin::Run;
-use lay_margin::contents::{collapses_through, floats_in, has_line, holds_inline};
 use lay_margin::engine::empty;
 use lay_margin::leads::{content_between, inline_size, join};
-use lay_margin::trees::{is_replaced, kids_at, starts_context};
-use lay_width::properties::floats_at;
+use lay_tree::adjoining::{collapses_through, joins_last_child};
+use lay_tree::boxes::{children as child_boxes, establishes_context, is_floated, is_replaced};
+use lay_tree::contents::{floats_in, has_line, holds_inline};
 use std::alloc::Global;
 use viz_base::{Band, Placed};
 use viz_calc::{Steady, greater};
@@ -342,7 +341,7 @@ fn lay<S: Steady>(
         let room = inline_size(calc, cb);
         return lay_replaced(calc, page, &room, context, b, &shape, out);
     }
-    if starts_context(page.tree, b) {
+    if establishes_context(page.tree, b) {
         return lay_context(alloc, calc, page, cb, context, b, &shape, out);
     }
     lay_block(alloc, calc, page, cb, context, b, cleared, &shape, out)
@@ -427,7 +426,7 @@ fn child<S: Steady>(
         (context_at S.at context.old e) k))) }
     ensures agrees { Agree S.at (S.run calc.new).is_open context.new.floats }
 {
-    if floats_at(page.tree, k) {
+    if is_floated(page.tree, k) {
         float(calc, page, cb, top, context, k, out);
     } else {
         flow(alloc, calc, page, cb, context, k, out);
@@ -511,17 +510,8 @@ pub fn content<S: Steady>(
         return;
     }
     if !holds_inline(tree, b) {
-        children(
-            alloc,
-            calc,
-            page,
-            cb,
-            top,
-            context,
-            b,
-            kids_at(tree, b),
-            out,
-        );
+        let kids = child_boxes(tree, b);
+        children(alloc, calc, page, cb, top, context, b, kids, out);
         return;
     }
     match floats_in(alloc, tree, b) {

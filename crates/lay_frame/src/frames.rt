@@ -8,7 +8,7 @@ ghost use Rattle.lay_frame.specs.Fitting.{top_way};
 ghost use Rattle.lay_frame.specs.Readings.{frame_at, verticals_at};
 
 use lay_length::lengths::used;
-use lay_width::properties::{borders, margins, paddings};
+use lay_tree::styles::{borders, margins, paddings};
 use viz_base::{BoxTree, Spot, Widths};
 use viz_calc::Steady;
 

@@ -2,7 +2,6 @@
 //! list that they are put into (CSS 2.1, 8.1, 9.4, 10.6).
 #![tactic(auto)]
 
-pub mod boxes;
 pub mod frames;
 pub mod lists;
 pub mod places;

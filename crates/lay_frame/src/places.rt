@@ -3,7 +3,6 @@ ghost use Rattle.std.specs.Prelude.{◌≡◌};
 ghost use Rattle.viz_calc.specs.State.{AllSmall};
 ghost use Rattle.viz_calc.specs.Run.{Lays};
 ghost use Rattle.viz_calc.specs.Renderings.{quad_at, placed_at};
-ghost use Rattle.layout_semantics.specs.Blocks.{node_of};
 ghost use Rattle.layout_semantics.specs.Rectangles.{placed_box, border_width as width_of, border_height as height_of};
 ghost use Rattle.layout_semantics.specs.Rectangles.{inset as inset_by, outset as outset_by, around as around_box};
 ghost use Rattle.lay_width.specs.Readings.{widths_at};
@@ -11,7 +10,7 @@ ghost use Rattle.lay_frame.specs.Fitting.{quad_way, width_way, tall_way, border_
 ghost use Rattle.lay_frame.specs.Readings.{verticals_at, frame_at};
 
 use crate::frames::{Edges, Shape};
-use lay_width::properties::kind_at;
+use lay_tree::boxes::{kind, node};
 use viz_base::{BoxTree, Kind, Placed, Quad, Widths};
 use viz_calc::Steady;
 
@@ -123,16 +122,6 @@ fn around<S: Steady>(
     }
 }
 
-/// The node of a box.
-fn node_at(tree: &BoxTree, b: u32) -> u32
-    ensures { result ≡ node_of tree.now b }
-{
-    match tree.boxes.get(b as usize) {
-        Some(node) => node.node,
-        None => 0,
-    }
-}
-
 /// The border box of a box with its content so high.
 fn border<S: Steady>(calc: &mut S, shape: &Shape<S::Num>, content: &S::Num) -> Quad<S::Num>
     ensures { Lays S.run calc.old calc.new (quad_at S.at result)
@@ -168,8 +157,8 @@ pub fn place<S: Steady>(
     let border = border(calc, shape, content);
     around(
         calc,
-        kind_at(tree, b),
-        node_at(tree, b),
+        kind(tree, b),
+        node(tree, b),
         &shape.x,
         &shape.v,
         border,

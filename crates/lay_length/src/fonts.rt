@@ -1,44 +1,19 @@
 //! Font sizes, line heights and the measures of fonts (CSS 2.1, 10.8.1, 15.7).
-ghost use Rattle.std.specs.Prelude.{◌≡◌, ◌≤◌, ◌*◌, length, slice_get, option_and_then, IsTrue, IfSome, option_map, [], ◌∷◌};
-ghost use Rattle.std.specs.Option.{option_map_or, option_copied};
+ghost use Rattle.std.specs.Prelude.{◌≤◌, length, [], ◌∷◌};
 ghost use Rattle.std.specs.Str.{chars};
 ghost use Rattle.viz_base.specs.declared.limits.TheConstants.{MOST_CHARACTERS};
-ghost use Rattle.viz_base.specs.Styles.{is_good_size, is_good_line};
-ghost use Rattle.viz_base.specs.declared.lengths.Size.TheVariants as of_size;
-ghost use Rattle.viz_base.specs.declared.styles.Style.{Style as StyleOf};
 ghost use Rattle.viz_calc.specs.State.{AllSmall};
 ghost use Rattle.viz_calc.specs.Run.{Lays};
-ghost use Rattle.viz_base.specs.FontSizes.{fraction, default_size, parent_in};
+ghost use Rattle.viz_base.specs.FontSizes.{fraction, default_size};
 ghost use Rattle.layout_semantics.specs.Fonts.{font_size as font_size_of, line_height as line_height_of};
 ghost use Rattle.layout_semantics.specs.Fonts.{ascent as ascent_of, descent as descent_of, text_width as text_width_of};
 ghost use Rattle.lay_length.specs.Ways.{size_way, part_way, line_way};
 
 use crate::lengths::{pixels, zero};
 use crate::texts::advances_of;
+use lay_tree::nodes::{font, own_line_height, own_size, parent_node};
 use viz_base::{BoxTree, Font, LineHeight, Size};
 use viz_calc::Steady;
-
-/// How the font size of a node comes about; as the parent's, where there is no such node.
-fn size_at(tree: &BoxTree, node: u32) -> Size
-    ensures value { result ≡ option_map_or
-        (λ (s : StyleOf). s.size) (slice_get tree.now.styles node) of_size.Same }
-    ensures good { IsTrue (is_good_size result) }
-{
-    match tree.styles.get(node as usize) {
-        Some(style) => style.size,
-        None => Size::Same,
-    }
-}
-
-/// The parent of a node, if it has one.
-fn parent_at(tree: &BoxTree, node: u32) -> Option<u32>
-    ensures { result ≡ parent_in tree.now.parents node }
-{
-    match tree.parents.get(node as usize) {
-        Some(parent) => *parent,
-        None => None,
-    }
-}
 
 /// A part of the default font size.
 fn default_part<S: Steady>(calc: &mut S, num: i64, den: u64) -> S::Num
@@ -62,7 +37,7 @@ pub fn font_size<S: Steady>(calc: &mut S, tree: &BoxTree, node: u32) -> S::Num
     ensures { Lays S.run calc.old calc.new (S.at result) (λ e. font_size_of tree.now e.world node)
         (λ e. AllSmall (size_way tree.now e.world node)) }
 {
-    match (size_at(tree, node), parent_at(tree, node)) {
+    match (own_size(tree, node), parent_node(tree, node)) {
         (Size::Px(units), _) => pixels(calc, units),
         (Size::Default { num, den }, _) => default_part(calc, num, den),
         (Size::Parent { num, den }, None) => default_part(calc, num, den),
@@ -87,38 +62,16 @@ pub fn size_part<S: Steady>(calc: &mut S, tree: &BoxTree, node: u32, num: i64, d
     calc.scale_floor(&size, num, den)
 }
 
-/// How the line height of a node comes about, if there is such a node.
-fn line_at(tree: &BoxTree, node: u32) -> Option<LineHeight>
-    ensures value { result ≡ option_map (λ (s : StyleOf). s.line) (slice_get tree.now.styles node) }
-    ensures good { IfSome result (λ line. IsTrue (is_good_line line)) }
-{
-    match tree.styles.get(node as usize) {
-        Some(style) => Some(style.line),
-        None => None,
-    }
-}
-
 /// The line height of a node, in 1/64 px (CSS 2.1, 10.8.1).
 pub fn line_height<S: Steady>(calc: &mut S, tree: &BoxTree, node: u32) -> S::Num
     ensures { Lays S.run calc.old calc.new (S.at result) (λ e. line_height_of tree.now e.world node)
         (λ e. AllSmall (line_way tree.now e.world node)) }
 {
-    match line_at(tree, node) {
+    match own_line_height(tree, node) {
         Some(LineHeight::Own { num, den }) => size_part(calc, tree, node, num, den),
         Some(LineHeight::Px(units)) => pixels(calc, units),
         Some(LineHeight::OfNode { node, num, den }) => size_part(calc, tree, node, num, den),
         None => zero(calc),
-    }
-}
-
-/// The font of a node, if there is one.
-fn font_at(tree: &BoxTree, node: u32) -> Option<&Font>
-    ensures { option_copied result ≡ option_and_then
-        (λ (s : StyleOf). slice_get tree.now.fonts s.font) (slice_get tree.now.styles node) }
-{
-    match tree.styles.get(node as usize) {
-        Some(style) => tree.fonts.get(style.font as usize),
-        None => None,
     }
 }
 
@@ -137,7 +90,7 @@ pub fn ascent<S: Steady>(calc: &mut S, tree: &BoxTree, node: u32) -> S::Num
     ensures { Lays S.run calc.old calc.new (S.at result) (λ e. ascent_of tree.now e.world node)
         (λ e. AllSmall (part_way tree.now e.world node (ascent_of tree.now e.world node))) }
 {
-    match font_at(tree, node) {
+    match font(tree, node) {
         Some(font) => measure(calc, tree, node, font, i64::from(font.ascent)),
         None => zero(calc),
     }
@@ -148,7 +101,7 @@ pub fn descent<S: Steady>(calc: &mut S, tree: &BoxTree, node: u32) -> S::Num
     ensures { Lays S.run calc.old calc.new (S.at result) (λ e. descent_of tree.now e.world node)
         (λ e. AllSmall (part_way tree.now e.world node (descent_of tree.now e.world node))) }
 {
-    match font_at(tree, node) {
+    match font(tree, node) {
         Some(font) => measure(calc, tree, node, font, i64::from(font.descent)),
         None => zero(calc),
     }
@@ -162,7 +115,7 @@ pub fn text_width<S: Steady>(calc: &mut S, tree: &BoxTree, node: u32, text: &str
         (λ e. AllSmall (part_way tree.now e.world node
         (text_width_of tree.now e.world node (chars text.now)))) }
 {
-    match font_at(tree, node) {
+    match font(tree, node) {
         Some(font) => measure(calc, tree, node, font, advances_of(font, text) as i64),
         None => zero(calc),
     }

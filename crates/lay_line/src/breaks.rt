@@ -1,12 +1,13 @@
 //! Where lines may break (CSS 2.1, 9.4.2, 16.6).
 ghost use Rattle.std.specs.Prelude.{◌≡◌, IfOk, None, option_map, find};
-ghost use Rattle.layout_semantics.specs.Segments.{is_thing as is_thing_of, wraps as wraps_at, is_wrapping_space as at_space, is_wrapping_atomic as at_atomic, is_behind_atomic as behind_atomic, may_part as may_part_by};
+ghost use Rattle.layout_semantics.specs.Segments.{is_thing as is_thing_of, is_wrapping_space as at_space, is_wrapping_atomic as at_atomic, is_behind_atomic as behind_atomic, may_part as may_part_by};
 ghost use Rattle.lay_line.specs.Items.{item_of, items_of, parting_of, run_of};
 ghost use Rattle.lay_line.specs.steps.Cutting.{leading_ends as ends_before, first_or as place_or, one_less as less_by_one, is_here as is_at, last_after as last_with, without as without_starts};
 ghost use Rattle.lay_line.specs.steps.Marks.{no_run, run_after, break_until as place_until, behind_in, place_in, left_in, marks as marks_of};
 
 use crate::items::{Item, is_end, is_forced, is_space, is_thing};
-use lay_width::properties::parent_at;
+use lay_tree::boxes::parent;
+use lay_tree::styles::wraps;
 use std::alloc::{AllocError, Global};
 use viz_base::BoxTree;
 
@@ -17,20 +18,6 @@ pub enum Parting {
     Lines,
     /// After forced breaks alone.
     Never,
-}
-
-#[tactic(auto, unfolding(layout_semantics::specs::Segments::wraps))]
-/// Whether `white-space` of a box's node lets lines break (CSS 2.1, 16.6).
-fn wraps(tree: &BoxTree, at: u32) -> bool
-    ensures { result ≡ wraps_at tree.now at }
-{
-    match tree.boxes.get(at as usize) {
-        Some(node) => match tree.styles.get(node.node as usize) {
-            Some(style) => style.wraps,
-            None => false,
-        },
-        None => false,
-    }
 }
 
 /// Whether a line may break behind a space.
@@ -48,7 +35,7 @@ fn is_wrapping_atomic(tree: &BoxTree, item: &Item) -> bool
     ensures { result ≡ at_atomic tree.now (item_of item.now) }
 {
     match item {
-        Item::Atomic(at) => match parent_at(tree, *at) {
+        Item::Atomic(at) => match parent(tree, *at) {
             Some(parent) => wraps(tree, parent),
             None => false,
         },

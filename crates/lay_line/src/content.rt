@@ -1,13 +1,12 @@
 //! The inline content of a block container, from the tree (CSS 2.1, 9.2.2, 9.4.2).
 ghost use Rattle.std.specs.Prelude.{◌≡◌, ◌<◌, ◌++◌, ◌∷◌, [], ℕ, length, IfOk, OnOk, MatchOption};
 ghost use Rattle.std.specs.Str.{chars};
-ghost use Rattle.layout_semantics.specs.InlineContent.{text_of, text_items, content as content_of};
+ghost use Rattle.layout_semantics.specs.InlineContent.{text_items, content as content_of};
 ghost use Rattle.lay_line.specs.Items.{item_of, items_of};
 ghost use Rattle.lay_line.specs.steps.Content.{IsCut, word_items, own_items};
 
 use crate::items::Item;
-use crate::trees::kids_at;
-use lay_width::properties::{floats_at, kind_at};
+use lay_tree::boxes::{children, is_floated, kind, text};
 use std::alloc::{AllocError, Global};
 use viz_base::{BoxTree, Kind};
 
@@ -54,16 +53,6 @@ fn add_text<'a>(at: u32, text: &'a str, items: &mut Vec<Item<'a>>) -> Result<(),
     add_word(at, rest, items)
 }
 
-/// The characters of a box.
-fn text_at(tree: &BoxTree, at: u32) -> &str
-    ensures { chars result.now ≡ text_of tree.now at }
-{
-    match tree.boxes.get(at as usize) {
-        Some(node) => node.chars.as_str(),
-        None => "",
-    }
-}
-
 #[cycle(walk)]
 #[tactic(auto, unfolding(crate::specs::steps::Content::own_items))]
 /// Adds the items of a box in inline content.
@@ -72,11 +61,11 @@ fn add_box<'a>(tree: &'a BoxTree, at: u32, items: &mut Vec<Item<'a>>) -> Result<
     ensures { OnOk result (items_of items.new.items
         ≡ items_of items.old.items ++ own_items tree.now at) }
 {
-    if floats_at(tree, at) {
+    if is_floated(tree, at) {
         return add(Item::Float(at), items);
     }
-    match kind_at(tree, at) {
-        Kind::Chars => add_text(at, text_at(tree, at), items),
+    match kind(tree, at) {
+        Kind::Chars => add_text(at, text(tree, at), items),
         Kind::Break => add(Item::Forced(at), items),
         Kind::Inline => {
             add(Item::Start(at), items)?;
@@ -94,7 +83,7 @@ fn add_content<'a>(tree: &'a BoxTree, at: u32, items: &mut Vec<Item<'a>>) -> Res
     ensures { OnOk result (items_of items.new.items
         ≡ items_of items.old.items ++ content_of tree.now at) }
 {
-    for kid in kids_at(tree, at) {
+    for kid in children(tree, at) {
         add_box(tree, *kid, items)?;
     }
     Ok(())

@@ -11,9 +11,9 @@ ghost use Rattle.lay_float.specs.Limits.{AreHalf};
 ghost use Rattle.lay_float.specs.Readings.{floats_at, extent_at};
 ghost use Rattle.lay_float.specs.steps.Lent.{lent_at};
 
-use crate::trees::{clear_at, side_at};
 use lay_float::Floats;
 use lay_float::engine::{float_top, place};
+use lay_tree::styles::{clear, float_side};
 use viz_base::{Band, BoxTree, Extent, Spot};
 use viz_calc::Steady;
 
@@ -45,8 +45,8 @@ pub fn place_float<S: Steady>(
         ∷ S.at y.now e ∷ option_to_list (lent_at S.at least.entry e)))) }
     ensures agrees { Agree S.at (S.run calc.new).is_open floats.new }
 {
-    let side = side_at(tree, at);
-    let clear = clear_at(tree, at);
+    let side = float_side(tree, at);
+    let clear = clear(tree, at);
     let top = float_top(calc, floats.placed.as_slice(), clear, least, y);
     place(calc, floats, side, size, cb, &top)
 }

@@ -22,10 +22,10 @@ use crate::items::Item;
 use crate::places::ItemPlace;
 use crate::shifts::{box_extent, inline_shift, shift};
 use crate::sizes::band_width;
-use crate::trees::node_at;
 use lay_length::fonts::{ascent, descent};
 use lay_length::lengths::{used, zero};
-use lay_width::properties::{borders, margins, paddings, parent_at};
+use lay_tree::boxes::{node, parent};
+use lay_tree::styles::{borders, margins, paddings};
 use viz_base::{Entry, Kind, Length, Placed, Quad, Sides, Spot};
 use viz_calc::Steady;
 
@@ -131,7 +131,7 @@ fn text_shift<S: Steady>(calc: &mut S, container: &Container<'_, S::Num>, at: u3
         (parent_of container.now.tree.now.boxes at) (pos 0))
         (λ e. TextShiftFits (context_at S.at container.now e) at) }
 {
-    match parent_at(container.tree, at) {
+    match parent(container.tree, at) {
         Some(parent) => inline_shift(calc, container, parent),
         None => zero(calc),
     }
@@ -196,7 +196,7 @@ pub fn text_fragment<S: Steady>(
 {
     let up = text_shift(calc, container, at);
     let baseline = calc.sub(&line.baseline, &up);
-    let node = node_at(container.tree, at);
+    let node = node(container.tree, at);
     let area = text_area(calc, container, node, &baseline, left, right);
     Entry::Here(plain_box(calc, Kind::Chars, node, area))
 }
@@ -300,7 +300,7 @@ fn around<S: Steady>(
         (λ e. AroundFits (context_at S.at container.now e) at
         (around_in (context_at S.at container.now e) at starts ends (quad_at S.at content e))) }
 {
-    let node = node_at(container.tree, at);
+    let node = node(container.tree, at);
     let padding = ring(
         calc,
         container,
@@ -368,7 +368,7 @@ fn fragment_to<S: Steady>(
 {
     let up = inline_shift(calc, container, at);
     let baseline = calc.sub(&line.baseline, &up);
-    let node = node_at(container.tree, at);
+    let node = node(container.tree, at);
     let area = text_area(calc, container, node, &baseline, span.left, right);
     Entry::Here(around(calc, container, at, span.starts, ends, area))
 }

@@ -28,6 +28,5 @@ pub mod segments;
 pub mod shifts;
 pub mod sizes;
 pub mod tops;
-pub mod trees;
 
 pub use front::lines;

@@ -25,8 +25,9 @@ use crate::items::is_solid;
 use crate::meeting::{Met, place_each};
 use crate::places::{ItemPlace, stand};
 use crate::sizes::band_width;
-use crate::trees::{align_at, node_at};
 use lay_length::lengths::zero;
+use lay_tree::boxes::node;
+use lay_tree::styles::text_align;
 use std::alloc::Global;
 use viz_base::{Align, Band, Entry, Kind, List, Quad, Spot};
 use viz_calc::Steady;
@@ -73,7 +74,7 @@ pub fn content_left<S: Steady>(
         (λ e. left_in (context_at S.at container.now e) (band_at S.at room.now e) (S.at held.now e))
         (λ e. OnLine (S.at room.now.left e ∷ S.at room.now.right e ∷ S.at held.now e ∷ [])) }
 {
-    let align = align_at(container.tree, container.at);
+    let align = text_align(container.tree, container.at);
     let by = moved(calc, align, room, held);
     calc.add(&room.left, &by)
 }
@@ -96,7 +97,7 @@ pub fn line_box<S: Steady>(
     let top = calc.copy(top);
     let right = calc.copy(&room.right);
     let bottom = calc.copy(bottom);
-    let node = node_at(container.tree, container.at);
+    let node = node(container.tree, container.at);
     let area = Quad {
         left,
         top,

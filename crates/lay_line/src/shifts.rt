@@ -18,10 +18,10 @@ ghost use Rattle.lay_line.specs.Fits.{CentredFits, RaiseFits, ShiftFits_to, Shif
 use crate::containers::{Container, inner_of};
 use crate::extents::{LineExtent, height};
 use crate::inline_extents::{half, inline_extent};
-use crate::trees::{node_at, valign_at};
 use lay_length::fonts::{line_height, size_part};
 use lay_length::lengths::{used, zero};
-use lay_width::properties::parent_at;
+use lay_tree::boxes::{node, parent};
+use lay_tree::styles::vertical_align;
 use viz_base::{BoxTree, Valign};
 use viz_calc::Steady;
 
@@ -105,11 +105,11 @@ fn shift_to<S: Steady>(
     if at == container.at {
         return zero(calc);
     }
-    match parent_at(container.tree, at) {
+    match parent(container.tree, at) {
         Some(parent) => {
-            let node = node_at(container.tree, at);
-            let around = node_at(container.tree, parent);
-            let valign = valign_at(container.tree, at);
+            let around = node(container.tree, parent);
+            let node = node(container.tree, at);
+            let valign = vertical_align(container.tree, at);
             let own = raise(calc, container, node, around, extent, &valign);
             let outer = inline_extent(calc, container.tree, around);
             let above = shift_to(calc, container, levels - 1, parent, &outer);
@@ -141,7 +141,7 @@ pub fn inline_shift<S: Steady>(calc: &mut S, container: &Container<'_, S::Num>, 
         (λ e. inline_raised (context_at S.at container.now e) at)
         (λ e. InlineShiftFits (context_at S.at container.now e) at) }
 {
-    let extent = inline_extent(calc, container.tree, node_at(container.tree, at));
+    let extent = inline_extent(calc, container.tree, node(container.tree, at));
     shift(calc, container, at, &extent)
 }
 
@@ -161,7 +161,7 @@ pub fn box_extent<S: Steady>(
             let below = calc.copy(&inner.below);
             LineExtent { above, below }
         }
-        None => inline_extent(calc, container.tree, node_at(container.tree, at)),
+        None => inline_extent(calc, container.tree, node(container.tree, at)),
     }
 }
 
@@ -191,5 +191,5 @@ pub fn strut<S: Steady>(calc: &mut S, container: &Container<'_, S::Num>) -> Line
         (λ e. InlineFits container.now.tree.now e.world
         (node_of container.now.tree.now container.now.at)) }
 {
-    inline_extent(calc, container.tree, node_at(container.tree, container.at))
+    inline_extent(calc, container.tree, node(container.tree, container.at))
 }

@@ -20,10 +20,10 @@ ghost use Rattle.lay_line.specs.Fits.{SideFits, WidthFits};
 use crate::containers::{Container, inner_of};
 use crate::held::Piece;
 use crate::items::Item;
-use crate::trees::node_at;
 use lay_length::fonts::text_width;
 use lay_length::lengths::{used, zero};
-use lay_width::properties::{borders, margins, paddings};
+use lay_tree::boxes::node;
+use lay_tree::styles::{borders, margins, paddings};
 use std::alloc::Global;
 use viz_base::{Band, BoxTree, Length};
 use viz_calc::Steady;
@@ -113,7 +113,7 @@ fn space_width<S: Steady>(calc: &mut S, tree: &BoxTree, at: u32) -> S::Num
         (part_way tree.now e.world (node_of tree.now at)
         (text_width_of tree.now e.world (node_of tree.now at) (32 ∷ [])))) }
 {
-    text_width(calc, tree, node_at(tree, at), " ")
+    text_width(calc, tree, node(tree, at), " ")
 }
 
 #[tactic(auto, unfolding(crate::specs::Contexts::context_at, crate::specs::steps::Words::width_in, crate::specs::Fits::WidthFits))]
@@ -125,12 +125,7 @@ fn item_width<S: Steady>(calc: &mut S, container: &Container<'_, S::Num>, item: 
         (λ e. WidthFits (context_at S.at container.now e) (item_of item.now)) }
 {
     match item {
-        Item::Word(at, text) => text_width(
-            calc,
-            container.tree,
-            node_at(container.tree, *at),
-            text,
-        ),
+        Item::Word(at, text) => text_width(calc, container.tree, node(container.tree, *at), text),
         Item::Space(at) => space_width(calc, container.tree, *at),
         Item::Atomic(at) => atomic_width(calc, container, *at),
         Item::Start(at) => start_width(calc, container, *at),

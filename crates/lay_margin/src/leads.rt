@@ -12,14 +12,15 @@ ghost use Rattle.lay_width.specs.Readings.{widths_at};
 ghost use Rattle.lay_margin.specs.Readings.{floats_at, passed_by};
 ghost use Rattle.layout_semantics.specs.Leads.{lead as landed};
 ghost use Rattle.lay_margin.specs.Runs.{run_at, with_margin, IsRunOf};
-ghost use Rattle.lay_margin.specs.steps.Leads.{going_at, joined_at, led_by, ended_at, closed_end, stops, margin_above, margin_below, inner_band, kid_going, lead_of, inner_of, content_of};
+ghost use Rattle.lay_margin.specs.steps.Leads.{going_at, joined_at, led_by, ended_at, closed_end, enters, stops, margin_above, margin_below, inner_band, kid_going, lead_of, inner_of, content_of};
 
 use crate::Run;
-use crate::contents::{collapses_through, enters, floats_in, holds_inline};
-use crate::trees::{clears, kids_at};
 use lay_length::lengths::used;
+use lay_tree::adjoining::{collapses_through, has_clear, is_open_above};
+use lay_tree::boxes::{children, is_floated};
+use lay_tree::contents::{floats_in, has_line, holds_inline};
+use lay_tree::styles::margins;
 use lay_width::engine::block;
-use lay_width::properties::{floats_at, margins};
 use std::alloc::Global;
 use viz_base::{Band, BoxTree, Lead, LeadEnd, Length, List, Waiting, Widths};
 use viz_calc::Steady;
@@ -199,12 +200,20 @@ fn is_passed(past: Option<u32>, b: u32) -> bool
     }
 }
 
+#[tactic(auto, unfolding(crate::specs::steps::Leads::enters))]
+/// Whether the margins that adjoin a box's top go on with those in it (CSS 2.1, 8.3.1).
+pub fn enters(tree: &BoxTree, b: u32) -> bool
+    ensures { result ≡ enters tree.now b }
+{
+    is_open_above(tree, b) && !has_line(tree, b)
+}
+
 #[tactic(auto, unfolding(crate::specs::steps::Leads::stops))]
 /// Whether the margins end at a box, since it has `clear`.
 pub fn stops_at(tree: &BoxTree, past: Option<u32>, b: u32) -> bool
     ensures { result ≡ stops tree.now (passed_by past) b }
 {
-    clears(tree, b) && !is_passed(past, b)
+    has_clear(tree, b) && !is_passed(past, b)
 }
 
 #[cycle(lead)]
@@ -308,7 +317,7 @@ fn content<S: Steady>(
             calc,
             tree,
             b,
-            kids_at(tree, b),
+            children(tree, b),
             band,
             past,
             run,
@@ -387,7 +396,7 @@ fn kid<S: Steady>(
         × (is_floated_at tree.now k ≡ false
         → LeadFits tree.now e.world (band_at S.at band.now e) k)) }
 {
-    if floats_at(tree, k) {
+    if is_floated(tree, k) {
         wait(calc, band, k, waiting);
         return end_at(calc, LeadEnd::Through, band);
     }

@@ -20,8 +20,7 @@ use lay_length::lengths::zero;
 use lay_line::content::content;
 use lay_line::held::Piece;
 use lay_line::items::Item;
-use lay_line::trees::kids_at;
-use lay_width::properties::floats_at;
+use lay_tree::boxes::{children, is_floated};
 use std::alloc::Global;
 use viz_base::{BoxTree, Preferred};
 use viz_calc::Steady;
@@ -164,9 +163,9 @@ fn of_blocks<S: Steady>(
         (BoxesFit tree.now (S.run calc.old).is_open × (inside_of tree.now b ≡ blocks)) }
 {
     let mut column = no_children();
-    for kid in kids_at(tree, b) {
+    for kid in children(tree, b) {
         let child = outer(alloc, calc, tree, *kid, found);
-        column = with_child(calc, column, floats_at(tree, *kid), child);
+        column = with_child(calc, column, is_floated(tree, *kid), child);
     }
     whole(calc, column)
 }

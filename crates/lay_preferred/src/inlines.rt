@@ -4,7 +4,6 @@ ghost use Rattle.viz_calc.specs.State.{AllSmall};
 ghost use Rattle.viz_calc.specs.Run.{Lays, LaysButMem};
 ghost use Rattle.layout_semantics.specs.Blocks.{node_of};
 ghost use Rattle.layout_semantics.specs.Fonts.{text_width as text_width_of};
-ghost use Rattle.layout_semantics.specs.InlineContent.{holds_inline as holds_lines};
 ghost use Rattle.layout_semantics.specs.Preferred.{inside_of};
 ghost use Rattle.layout_semantics.specs.Segments.{may_part, never};
 ghost use Rattle.lay_width.specs.Readings.{preferred_at};
@@ -27,8 +26,8 @@ use lay_line::breaks::{Parting, marks};
 use lay_line::held::Piece;
 use lay_line::items::Item;
 use lay_line::segments::Segments;
-use lay_line::trees::{kids_at, node_at};
-use lay_width::properties::{inline_level_at, kind_at};
+use lay_tree::boxes::{kind, node};
+use lay_tree::contents::holds_inline;
 use std::alloc::Global;
 use viz_base::{BoxTree, Kind, Preferred};
 use viz_calc::Steady;
@@ -53,21 +52,11 @@ pub enum Sort {
     Blocks,
 }
 
-#[tactic(auto, unfolding(layout_semantics::specs::InlineContent::holds_inline))]
-/// Whether a block container holds inline content (CSS 2.1, 9.2.1).
-fn holds_inline(tree: &BoxTree, at: u32) -> bool
-    ensures { result ≡ holds_lines tree.now at }
-{
-    kids_at(tree, at)
-        .iter()
-        .any(|kid| inline_level_at(tree, *kid))
-}
-
 /// What decides the preferred widths of a box.
 pub fn sort_of(tree: &BoxTree, at: u32) -> Sort
     ensures { inside_by result ≡ inside_of tree.now at }
 {
-    match kind_at(tree, at) {
+    match kind(tree, at) {
         Kind::Replaced => Sort::Replaced,
         _ => {
             if holds_inline(tree, at) {
@@ -184,7 +173,7 @@ fn space_width<S: Steady>(calc: &mut S, tree: &BoxTree, at: u32) -> S::Num
         (λ e. text_width_of tree.now e.world (node_of tree.now at) (32 ∷ []))
         (λ e. TextFits tree.now e.world at (32 ∷ [])) }
 {
-    text_width(calc, tree, node_at(tree, at), " ")
+    text_width(calc, tree, node(tree, at), " ")
 }
 
 #[tactic(auto, unfolding(crate::specs::steps::Parts::width_of))]
@@ -196,7 +185,7 @@ pub fn item_width<S: Steady>(calc: &mut S, tree: &BoxTree, item: &Item) -> S::Nu
         (λ e. ItemFits tree.now e.world (item_of item.now)) }
 {
     match item {
-        Item::Word(at, text) => text_width(calc, tree, node_at(tree, *at), text),
+        Item::Word(at, text) => text_width(calc, tree, node(tree, *at), text),
         Item::Space(at) => space_width(calc, tree, *at),
         Item::Start(at) => start_width(calc, tree, *at),
         Item::Finish(at) => end_width(calc, tree, *at),

@@ -14,11 +14,10 @@ ghost use Rattle.lay_preferred.specs.Fitting.{SideFits, StartFits, EndFits, Edge
 ghost use Rattle.lay_preferred.specs.steps.Outer.{edge, start_of, end_of, edges_of, clamped_of, with_edges as edged, is_given as given_width, given as given_of, around as around_of, replaced as replaced_of};
 
 use lay_length::lengths::{pixels, zero};
+use lay_tree::boxes::{intrinsic_size, kind};
+use lay_tree::styles::{borders, margins, max_width, min_width, own_height, own_width, paddings};
 use lay_width::clamping::used_if_absolute;
 use lay_width::limits::hold;
-use lay_width::properties::{
-    borders, intrinsic, kind_at, margins, own_height, own_least, own_most, own_width, paddings,
-};
 use lay_width::replaced::by_ratio;
 use viz_base::{BoxTree, Kind, Length, Preferred};
 use viz_calc::Steady;
@@ -127,7 +126,7 @@ fn most_width<S: Steady>(calc: &mut S, tree: &BoxTree, at: u32) -> Option<S::Num
         (λ e. MostFits tree.now e.world (own tree.now at (λ (s : StyleOf). s.max_width) None)
         (pos 0)) }
 {
-    match own_most(tree, at) {
+    match max_width(tree, at) {
         Some(most) => used_if_absolute(calc, tree, &most),
         None => None,
     }
@@ -141,7 +140,7 @@ fn clamped<S: Steady>(calc: &mut S, tree: &BoxTree, at: u32, width: S::Num) -> S
         (λ e. ClampFits tree.now e.world at (pos 0)) }
 {
     let most = most_width(calc, tree, at);
-    let least = absolute_part(calc, tree, &own_least(tree, at));
+    let least = absolute_part(calc, tree, &min_width(tree, at));
     hold(calc, most, least, width)
 }
 
@@ -162,7 +161,7 @@ fn with_edges<S: Steady>(calc: &mut S, tree: &BoxTree, at: u32, width: S::Num) -
 pub fn is_given(tree: &BoxTree, at: u32) -> bool
     ensures { result ≡ given_width tree.now at }
 {
-    !matches!(kind_at(tree, at), Kind::Replaced)
+    !matches!(kind(tree, at), Kind::Replaced)
         && matches!(own_width(tree, at), Length::Px(_) | Length::Em { .. })
 }
 
@@ -203,7 +202,7 @@ fn by_height<S: Steady>(calc: &mut S, tree: &BoxTree, at: u32) -> S::Num
         (if_absolute tree.now e.world (own tree.now at (λ (s : StyleOf). s.height) of_length.Auto)))
         (λ e. ByHeightFits tree.now e.world at) }
 {
-    let size = intrinsic(tree, at);
+    let size = intrinsic_size(tree, at);
     match used_if_absolute(calc, tree, &own_height(tree, at)) {
         Some(height) => by_ratio(calc, &height, size.1, size.0),
         None => pixels(calc, 64 * i64::from(size.0)),

@@ -10,9 +10,9 @@ ghost use Rattle.lay_width.specs.Readings.{option_at};
 ghost use Rattle.lay_width.specs.Fitting.{UsedFits, MostFits, ClampFits};
 ghost use Rattle.lay_width.specs.steps.Terms.{above as above_of, below as below_of, again as again_of};
 
-use crate::properties::{own_least, own_most};
 use lay_length::fonts::size_part;
 use lay_length::lengths::{pixels, used};
+use lay_tree::styles::{max_width, min_width};
 use viz_base::{BoxTree, Length};
 use viz_calc::Steady;
 
@@ -53,7 +53,7 @@ pub fn own_maximum<S: Steady>(calc: &mut S, tree: &BoxTree, b: u32, cb: &S::Num)
         (λ e. MostFits tree.now e.world (own tree.now b (λ (s : StyleOf). s.max_width) None)
         (S.at cb.now e)) }
 {
-    match own_most(tree, b) {
+    match max_width(tree, b) {
         Some(most) => used_unless_auto(calc, tree, &most, cb),
         None => None,
     }
@@ -120,7 +120,7 @@ pub fn again<S: Steady>(
 {
     let most = own_maximum(calc, tree, b, cb);
     let most = above(calc, most, width);
-    let least = used(calc, tree, &own_least(tree, b), cb);
+    let least = used(calc, tree, &min_width(tree, b), cb);
     below(calc, least, width, most)
 }
 

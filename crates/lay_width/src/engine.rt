@@ -17,10 +17,11 @@ ghost use Rattle.lay_width.specs.steps.Terms.{fixed_around, filled_block, given_
 ghost use Rattle.lay_width.specs.steps.Terms.{around as around_of};
 
 use crate::clamping::{again, clamped};
-use crate::properties::{Placing, is_auto, margins, own_width, placed_as};
 use crate::replaced;
 use crate::terms::{around, edges, fixed, room};
 use lay_length::lengths::used;
+use lay_tree::placings::{Placing, placed_as};
+use lay_tree::styles::{is_auto, margins, own_width};
 use viz_base::{BoxTree, Length, Preferred, Widths};
 use viz_calc::{Steady, lesser};
 

@@ -4,41 +4,19 @@ ghost use Rattle.viz_base.specs.declared.styles.Style.{Style as StyleOf};
 ghost use Rattle.viz_calc.specs.State.{AllSmall};
 ghost use Rattle.viz_calc.specs.Run.{Lays};
 ghost use Rattle.layout_semantics.specs.Lengths.{own, maximum};
-ghost use Rattle.layout_semantics.specs.DefiniteHeights.{is_passed_over, container_to, definite_height_to};
+ghost use Rattle.layout_semantics.specs.DefiniteHeights.{definite_height_to};
 ghost use Rattle.layout_semantics.specs.DefiniteHeights.{height_around as height_in, own_height_around as own_height_in, least_height as least_of};
 ghost use Rattle.layout_semantics.specs.DefiniteHeights.{given_height as given_height_of};
 ghost use Rattle.lay_width.specs.Readings.{option_at};
 ghost use Rattle.lay_width.specs.Fitting.{HeightFits, MostHeightFits, OwnHeightFits, DefiniteFits_to, GivenFits};
 
 use crate::limits::hold;
-use crate::properties::{kind_at, least_height, most_height, own_height, parent_at};
 use lay_length::fonts::size_part;
 use lay_length::lengths::{percentage, pixels, zero};
-use viz_base::{BoxTree, Kind, Length};
+use lay_tree::heights::container;
+use lay_tree::styles::{max_height, min_height, own_height};
+use viz_base::{BoxTree, Length};
 use viz_calc::Steady;
-
-/// Whether percentages of heights are of no box of this kind: an inline box is no containing block, and an
-/// anonymous block is passed over (CSS 2.1, 9.2.1.1).
-fn passed_over(kind: Kind) -> bool
-    ensures { result ≡ is_passed_over kind }
-{
-    matches!(kind, Kind::Inline | Kind::Anon)
-}
-
-/// The box whose height percentages are of, up so many levels, where there is one.
-pub fn container(tree: &BoxTree, levels: u64, b: u32) -> Option<u32>
-    ensures { result ≡ container_to levels tree.now b }
-{
-    if levels == 0 {
-        return None;
-    }
-    let parent = parent_at(tree, b)?;
-    if passed_over(kind_at(tree, parent)) {
-        container(tree, levels - 1, parent)
-    } else {
-        Some(parent)
-    }
-}
 
 /// A height where the containing block's is `around`: nothing of `auto`, and of a percentage of no definite height.
 pub fn height_around<S: Steady>(
@@ -73,7 +51,7 @@ pub fn most_around<S: Steady>(
         (λ e. MostHeightFits tree.now e.world (option_at S.at around.now e)
         (own tree.now b (λ (s : StyleOf). s.max_height) None)) }
 {
-    match most_height(tree, b) {
+    match max_height(tree, b) {
         Some(most) => height_around(calc, tree, around, &most),
         None => None,
     }
@@ -92,7 +70,7 @@ pub fn least_around<S: Steady>(
         (λ e. HeightFits tree.now e.world (option_at S.at around.now e) (least_of tree.now b)
         × AllSmall (pos 0 ∷ [])) }
 {
-    match height_around(calc, tree, around, &least_height(tree, b)) {
+    match height_around(calc, tree, around, &min_height(tree, b)) {
         Some(least) => least,
         None => zero(calc),
     }

@@ -6,7 +6,6 @@ pub mod engine;
 mod front;
 pub mod heights;
 pub mod limits;
-pub mod properties;
 pub mod replaced;
 pub mod terms;
 

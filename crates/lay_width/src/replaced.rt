@@ -16,8 +16,9 @@ ghost use Rattle.lay_width.specs.steps.Terms.{tentative as tentative_of};
 use crate::clamping::own_maximum;
 use crate::heights::given_height;
 use crate::limits::hold;
-use crate::properties::{intrinsic, own_least, own_width};
 use lay_length::lengths::{pixels, used};
+use lay_tree::boxes::intrinsic_size;
+use lay_tree::styles::{min_width, own_width};
 use viz_base::{BoxTree, Length};
 use viz_calc::Steady;
 
@@ -57,7 +58,7 @@ fn tentative<S: Steady>(calc: &mut S, tree: &BoxTree, b: u32, cb: &S::Num) -> S:
     match own_width(tree, b) {
         Length::Auto => {
             let height = given_height(calc, tree, b);
-            by_height(calc, intrinsic(tree, b), height)
+            by_height(calc, intrinsic_size(tree, b), height)
         }
         width @ (Length::Px(_) | Length::Em { .. } | Length::Pct(_)) => used(
             calc, tree, &width, cb,
@@ -73,6 +74,6 @@ pub fn width<S: Steady>(calc: &mut S, tree: &BoxTree, b: u32, cb: &S::Num) -> S:
 {
     let width = tentative(calc, tree, b, cb);
     let most = own_maximum(calc, tree, b, cb);
-    let least = used(calc, tree, &own_least(tree, b), cb);
+    let least = used(calc, tree, &min_width(tree, b), cb);
     hold(calc, most, least, width)
 }

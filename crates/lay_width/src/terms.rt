@@ -10,8 +10,8 @@ ghost use Rattle.lay_width.specs.Readings.{widths_at};
 ghost use Rattle.lay_width.specs.Fitting.{EdgesFit, FixedFits, sum_way, room_way, right_way, left_way};
 ghost use Rattle.lay_width.specs.steps.Terms.{around, room_between, with_left, fixed_around};
 
-use crate::properties::{borders, margins, paddings};
 use lay_length::lengths::{used, zero};
+use lay_tree::styles::{borders, margins, paddings};
 use viz_base::{BoxTree, Widths};
 use viz_calc::Steady;
 

@@ -10,7 +10,7 @@ use Rattle.lay_line.proofs.Chains.{ChainButMem, but_mem, start_but_mem, next_but
 use Rattle.lay_margin.specs.Readings.{floats_at}
 use Rattle.lay_margin.specs.Runs.{run_at}
 use Rattle.lay_margin.specs.steps.Leads.{enters, inner_band}
-use Rattle.lay_margin.proofs.Kids.{flow-kids}
+use Rattle.lay_tree.proofs.Kids.{flow-kids}
 use Rattle.lay_steps.specs.Forward.{Found, kid_of}
 use Rattle.lay_flow.specs.Readings.{end_at}
 use Rattle.lay_flow.specs.Ways.{ground_at, way_at, kids_at_reading, WayFitsAt, KidsFitAt, KidFitsAt, AreTried}
@@ -133,7 +133,7 @@ content-returns-then-not-holds_inline g t c =
     let tree = way.page.now.tree.now in
     let no_lines : holds_inline tree c.args.b ≡ false = grind arith in
     let chain = start_but_mem {asks = λ (e : Reading). KidsFitAt at way e (band_at at c.args.band.now e) (flow_children tree c.args.b) (run_at at c.args.going.now.run e) (floats_at at c.args.going.now.waiting e)} c.kids.ensures.goes c.kids.ensures.cause
-    (λ f e o. subst (λ ks. KidsFitAt at way e (band_at at c.args.band.now e) ks (run_at at c.args.going.now.run e) (floats_at at c.args.going.now.waiting e)) (flow-kids tree c.args.b no_lines ∙ sym c.kids_at.ensures.value) (f e o)) in
+    (λ f e o. subst (λ ks. KidsFitAt at way e (band_at at c.args.band.now e) ks (run_at at c.args.going.now.run e) (floats_at at c.args.going.now.waiting e)) (flow-kids tree c.args.b no_lines ∙ sym c.children.ensures.value) (f e o)) in
     record {
       goes = chain.goes;
       value = grind (arith, common_steps);
@@ -218,8 +218,8 @@ kids-loop-place-preserved g t c =
           own.cause;
     }
 
-pub kid-returns-then-floats_at : goal.kid-returns-then-floats_at
-kid-returns-then-floats_at g t c =
+pub kid-returns-then-is_floated : goal.kid-returns-then-is_floated
+kid-returns-then-is_floated g t c =
     let at = g.S.Steady.at in
     let way = c.args.way.now in
     let going = c.args.going.now in

@@ -21,8 +21,8 @@ returns g c =
       | in-Some w ↦ rw w.calc-is one
       | in-None w ↦
           rw w.calc-is (next (next one w.width-width.ensures.goes w.width-width.ensures.cause (λ f e o. (f e o).width)) w.by_ratio-height.ensures.goes w.by_ratio-height.ensures.cause (λ f e o.
-          subst (λ z. AllSmall (by_ratio z w.intrinsic-size.result.0 w.intrinsic-size.result.1 ∷ [])) (sym (w.width-width.ensures.value e o))
-          (subst (λ (s : ℕ × ℕ). AllSmall (by_ratio (replaced_size tree e.world b (room e)).width s.0 s.1 ∷ [])) (sym w.intrinsic-size.ensures) (f e o).ratio)))
+          subst (λ z. AllSmall (by_ratio z w.intrinsic_size-size.result.0 w.intrinsic_size-size.result.1 ∷ [])) (sym (w.width-width.ensures.value e o))
+          (subst (λ (s : ℕ × ℕ). AllSmall (by_ratio (replaced_size tree e.world b (room e)).width s.0 s.1 ∷ [])) (sym w.intrinsic_size-size.ensures) (f e o).ratio)))
     ] in
     let chain = next two c.clamped.ensures.goes c.clamped.ensures.cause (λ f e o. (f e o).own) in
     record {

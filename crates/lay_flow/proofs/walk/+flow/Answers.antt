@@ -9,7 +9,7 @@ use Rattle.layout_semantics.specs.FlowBoxes.{content_from, is_context_root, is_r
 use Rattle.layout_semantics.specs.InlineContent.{has_line, holds_inline, is_floated_at}
 use Rattle.layout_semantics.specs.Rectangles.{Frame, content_top}
 use Rattle.lay_frame.specs.Readings.{boxes_at, frame_at}
-use Rattle.lay_margin.proofs.Kids.{flow-kids}
+use Rattle.lay_tree.proofs.Kids.{flow-kids}
 use Rattle.lay_steps.specs.Flow.{Context, Met, Step, fresh, met, without_boxes}
 use Rattle.lay_margin.specs.Runs.{run_at}
 use Rattle.lay_flow.specs.Fits.{IsNear, IsReplacedFit}
@@ -51,7 +51,7 @@ content-returns-then-not-holds_inline-clause-context g t c = λ e o.
     let blocks : holds_inline page.tree.now c.args.b ≡ false = grind arith in
     c.children.ensures.context e o
     ∙ ap (λ (x : Step). x.context) (by-children page.tree.now e.world (apart_at at page.apart.now e) c.args.b (band_at at c.args.cb.now e) (at c.args.top.now e) (context_at at c.args.context.now e) c.requires.within
-    c.kids_at.result.now lines (c.kids_at.ensures.value ∙ sym (flow-kids page.tree.now c.args.b blocks)))
+    c.children-kids.result.now lines (c.children-kids.ensures.value ∙ sym (flow-kids page.tree.now c.args.b blocks)))
 
 pub content-returns-then-not-holds_inline-clause-boxes : goal.content-returns-then-not-holds_inline-clause-boxes
 content-returns-then-not-holds_inline-clause-boxes g t c = λ e o.
@@ -61,7 +61,7 @@ content-returns-then-not-holds_inline-clause-boxes g t c = λ e o.
     let blocks : holds_inline page.tree.now c.args.b ≡ false = grind arith in
     c.children.ensures.boxes e o
     ∙ ap (λ (x : Step). boxes_at at c.args.out.now.items e ++ x.boxes) (by-children page.tree.now e.world (apart_at at page.apart.now e) c.args.b (band_at at c.args.cb.now e) (at c.args.top.now e) (context_at at c.args.context.now e) c.requires.within
-    c.kids_at.result.now lines (c.kids_at.ensures.value ∙ sym (flow-kids page.tree.now c.args.b blocks)))
+    c.children-kids.result.now lines (c.children-kids.ensures.value ∙ sym (flow-kids page.tree.now c.args.b blocks)))
 
 pub content-returns-in-Ok-clause-context : goal.content-returns-in-Ok-clause-context
 content-returns-in-Ok-clause-context g t c = λ e o.
@@ -227,8 +227,8 @@ lay-returns-then-is_replaced-clause-cause g t c =
       (x.least, subst IsFrameLow (sym (shape.value e (wide.goes.closes e o))) x.frame),
     ))).cause
 
-pub lay-returns-then-starts_context-clause-cause : goal.lay-returns-then-starts_context-clause-cause
-lay-returns-then-starts_context-clause-cause g t c =
+pub lay-returns-then-establishes_context-clause-cause : goal.lay-returns-then-establishes_context-clause-cause
+lay-returns-then-establishes_context-clause-cause g t c =
     let at = g.S.Steady.at in
     let page = c.args.page.now in
     let tree = page.tree.now in
@@ -340,7 +340,7 @@ content-returns-then-not-holds_inline-clause-cause g t c =
     (first {tree = tree} {asks = asks} c.children.ensures.goes c.children.ensures.cause (λ a. (
       a.0,
       λ e o.
-          subst (λ (ks : List ℕ). WalkFits tree e.world (apart e) (before_children (cb e) (y e) (s e) ks)) (sym (c.kids_at.ensures.value ∙ sym (flow-kids tree b blocks)))
+          subst (λ (ks : List ℕ). WalkFits tree e.world (apart e) (before_children (cb e) (y e) (s e) ks)) (sym (c.children-kids.ensures.value ∙ sym (flow-kids tree b blocks)))
           ((content-walk tree e.world (apart e) b (cb e) (y e) (s e) (a.1 e o)).in_boxes lines),
     ))).cause
 
@@ -400,8 +400,8 @@ children-loop-k-preserved g t c =
       cause = BlamesButMem-then _ _ _ _ _ inv.goes own.goes inv.cause (λ a. (boxes-later tree _ _ inv.goes a.0, λ e o. (next e (inv.left a.1 e o)).first)) own.cause;
     }
 
-pub child-returns-then-floats_at-clause-cause : goal.child-returns-then-floats_at-clause-cause
-child-returns-then-floats_at-clause-cause g t c =
+pub child-returns-then-is_floated-clause-cause : goal.child-returns-then-is_floated-clause-cause
+child-returns-then-is_floated-clause-cause g t c =
     let at = g.S.Steady.at in
     let page = c.args.page.now in
     let tree = page.tree.now in
@@ -415,8 +415,8 @@ child-returns-then-floats_at-clause-cause g t c =
     (first {tree = tree} {asks = asks} c.float.ensures.goes c.float.ensures.cause (λ a e o.
     let x = (child-walk tree e.world (apart e) (cb e) (y e) (s e) k (a.1 e o)).floats is in (x.so_far, (x.band, (x.top_near, x.own))))).cause
 
-pub child-returns-else-floats_at-clause-cause : goal.child-returns-else-floats_at-clause-cause
-child-returns-else-floats_at-clause-cause g t c =
+pub child-returns-else-is_floated-clause-cause : goal.child-returns-else-is_floated-clause-cause
+child-returns-else-is_floated-clause-cause g t c =
     let at = g.S.Steady.at in
     let page = c.args.page.now in
     let tree = page.tree.now in

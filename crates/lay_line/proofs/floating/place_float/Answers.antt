@@ -35,16 +35,16 @@ returns g c =
       goes = Goes-then _ _ _ top.goes c.place.ensures.goes;
       value = λ e o.
           c.place.ensures.value e o
-          ∙ (ap (λ s. float_at (old e) s (f e).size (f e).cb (at c.float_top-top.result e)) c.side_at-side.ensures
+          ∙ (ap (λ s. float_at (old e) s (f e).size (f e).cb (at c.float_top-top.result e)) c.float_side-side.ensures
           ∙ (ap (λ t. float_at (old e) (f e).side (f e).size (f e).cb t) (top.value e (c.place.ensures.goes.closes e o))
-          ∙ (ap (λ k. float_at (old e) (f e).side (f e).size (f e).cb (float_top k (boxes_at at placed e) (least e) (y e))) c.clear_at-clear.ensures
+          ∙ (ap (λ k. float_at (old e) (f e).side (f e).size (f e).cb (float_top k (boxes_at at placed e) (least e) (y e))) c.clear-clear.ensures
           ∙ ap (λ l. float_at (old e) (f e).side (f e).size (f e).cb (float_top (f e).clear (boxes_at at l e) (least e) (y e))) c.as_slice.ensures)));
       appended = λ e o.
           c.place.ensures.appended e o
-          ∙ ap (λ s. old e ++ placed_float s (f e).size (spot_at at c.place.result e) ∷ []) c.side_at-side.ensures;
+          ∙ ap (λ s. old e ++ placed_float s (f e).size (spot_at at c.place.result e) ∷ []) c.float_side-side.ensures;
       cause = (next_but_mem one c.place.ensures.goes c.place.ensures.cause (λ f e o.
           let a = f e o in
-          let half = subst IsHalf (sym (top.value e o)) (top_half c.clear_at-clear.result (boxes_at at placed e) (least e) (y e) (given e a)) in
+          let half = subst IsHalf (sym (top.value e o)) (top_half c.clear-clear.result (boxes_at at placed e) (least e) (y e) (given e a)) in
           record { edges = a.edges; numbers = (a.numbers.0, (a.numbers.1.0, (a.numbers.1.1.0, (a.numbers.1.1.1.0, (half, tt))))) })).cause;
       agrees = c.place.ensures.agrees;
     }

@@ -23,5 +23,5 @@ returns g c = record {
       let by = c.moved-by.ensures in
       let first = start {asks = λ (e : Reading). OnLine (l e ∷ r e ∷ h e ∷ [])} by.goes by.cause (λ f. f) in
       (next first c.add.ensures.goes c.add.ensures.cause (λ f e o.
-      (subst IsSmall (sym (ap (λ x. l e +ℤ x) (by.value e o))) (begin_small (l e) (r e) (h e) c.align_at-align.result (f e o)), tt))).cause;
+      (subst IsSmall (sym (ap (λ x. l e +ℤ x) (by.value e o))) (begin_small (l e) (r e) (h e) c.text_align-align.result (f e o)), tt))).cause;
 }

@@ -82,12 +82,12 @@ returns-in-Some g t c = record {
       let o2 = c.shift_to-above.ensures.goes.closes e o1 in
       let o3 = c.inline_extent-outer.ensures.goes.closes e o2 in
       let up : c.args.levels ≡ suc (c.args.levels - 1) = omega arith in
-      let node = c.node_at-node.ensures in
-      let around = c.node_at-around.ensures in
+      let node = c.node-node.ensures in
+      let around = c.node-around.ensures in
       let own_one = c.raise-own.ensures.value e o3
-      ∙ (ap (λ n. raise_in ctx n c.node_at-around.result ext c.valign_at-valign.result) node
-      ∙ (ap (λ n. raise_in ctx (node_of tree b) n ext c.valign_at-valign.result) around
-      ∙ ap (λ v. raise_in ctx (node_of tree b) (node_of tree p) ext v) c.valign_at-valign.ensures)) in
+      ∙ (ap (λ n. raise_in ctx n c.node-around.result ext c.vertical_align-valign.result) node
+      ∙ (ap (λ n. raise_in ctx (node_of tree b) n ext c.vertical_align-valign.result) around
+      ∙ ap (λ v. raise_in ctx (node_of tree b) (node_of tree p) ext v) c.vertical_align-valign.ensures)) in
       let above = c.shift_to-above.ensures.value e o1
       ∙ ap (λ x. shift_to less ctx p x) (c.inline_extent-outer.ensures.value e o2 ∙ ap (λ n. inline_extent tree e.world n) around) in
       c.add.ensures.value e o
@@ -102,9 +102,9 @@ returns-in-Some g t c = record {
       let p = c.in-Some.parent in
       let less = c.args.levels - 1 in
       let up : c.args.levels ≡ suc (c.args.levels - 1) = omega arith in
-      let node = c.node_at-node.ensures in
-      let around = c.node_at-around.ensures in
-      let valign = c.valign_at-valign.ensures in
+      let node = c.node-node.ensures in
+      let around = c.node-around.ensures in
+      let valign = c.vertical_align-valign.ensures in
       let own_one = c.raise-own.ensures in
       let outer = c.inline_extent-outer.ensures in
       let above = c.shift_to-above.ensures in
@@ -114,8 +114,8 @@ returns-in-Some g t c = record {
       fits-up c.args.levels less (context_at at c.args.container.now e) b (line_extent_at at c.args.extent.now e) p up c.if-at-container.false (sym c.in-Some.ensures) (f e o)) in
       let own_is = (λ (e : Reading) (o : IsTrue ((run c.raise-own.new.calc).is_open e)).
       own_one.value e o
-      ∙ (ap (λ n. raise_in (context_at at c.args.container.now e) n c.node_at-around.result (line_extent_at at c.args.extent.now e) c.valign_at-valign.result) node
-      ∙ (ap (λ n. raise_in (context_at at c.args.container.now e) (node_of tree b) n (line_extent_at at c.args.extent.now e) c.valign_at-valign.result) around
+      ∙ (ap (λ n. raise_in (context_at at c.args.container.now e) n c.node-around.result (line_extent_at at c.args.extent.now e) c.vertical_align-valign.result) node
+      ∙ (ap (λ n. raise_in (context_at at c.args.container.now e) (node_of tree b) n (line_extent_at at c.args.extent.now e) c.vertical_align-valign.result) around
       ∙ ap (λ v. raise_in (context_at at c.args.container.now e) (node_of tree b) (node_of tree p) (line_extent_at at c.args.extent.now e) v) valign))) in
       let outer_is = (λ (e : Reading) (o : IsTrue ((run c.inline_extent-outer.new.calc).is_open e)). outer.value e o ∙ ap (λ n. inline_extent tree e.world n) around) in
       let first : Blames start (run c.raise-own.new.calc) more = record {
@@ -123,8 +123,8 @@ returns-in-Some g t c = record {
         coeff = λ f. own_one.cause.coeff (λ e o.
             let ctx = context_at at c.args.container.now e in
             let ext = line_extent_at at c.args.extent.now e in
-            subst (λ n. RaiseFits ctx n c.node_at-around.result ext c.valign_at-valign.result) (sym node)
-            (subst (λ n. RaiseFits ctx (node_of tree b) n ext c.valign_at-valign.result) (sym around)
+            subst (λ n. RaiseFits ctx n c.node-around.result ext c.vertical_align-valign.result) (sym node)
+            (subst (λ n. RaiseFits ctx (node_of tree b) n ext c.vertical_align-valign.result) (sym around)
             (subst (λ v. RaiseFits ctx (node_of tree b) (node_of tree p) ext v) (sym valign) (parts f e o).0)));
         opens = own_one.cause.opens;
       } in

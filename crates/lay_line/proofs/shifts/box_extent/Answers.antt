@@ -38,9 +38,9 @@ returns-in-None g c = record {
   goes = c.inline_extent.ensures.goes;
   value = λ e o.
       c.inline_extent.ensures.value e o
-      ∙ (ap (λ n. inline_extent c.args.container.now.tree.now e.world n) c.node_at.ensures
+      ∙ (ap (λ n. inline_extent c.args.container.now.tree.now e.world n) c.node.ensures
       ∙ sym (reach-none g.S.Steady.at e c.args.container.now c.args.at (sym c.in-None.ensures)));
   cause =
       let one = c.inline_extent.ensures.cause in
-      record { mem = one.mem; coeff = λ f. one.coeff (λ e o. subst (λ n. InlineFits c.args.container.now.tree.now e.world n) (sym c.node_at.ensures) (own-none g.S.Steady.at e c.args.container.now c.args.at (sym c.in-None.ensures) (f e o))); opens = one.opens };
+      record { mem = one.mem; coeff = λ f. one.coeff (λ e o. subst (λ n. InlineFits c.args.container.now.tree.now e.world n) (sym c.node.ensures) (own-none g.S.Steady.at e c.args.container.now c.args.at (sym c.in-None.ensures) (f e o))); opens = one.opens };
 }

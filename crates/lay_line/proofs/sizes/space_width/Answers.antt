@@ -18,9 +18,9 @@ returns g c =
     let tree = c.args.tree.now in
     let asks = (λ (e : Reading). AllSmall (part_way tree e.world (node_of tree c.args.at) (text_width tree e.world (node_of tree c.args.at) (32 ∷ [])))) in
     let chain = (start {asks = asks} c.text_width.ensures.goes c.text_width.ensures.cause
-    (λ f e o. subst (λ n. AllSmall (part_way tree e.world n (text_width tree e.world n (32 ∷ [])))) (sym c.node_at.ensures) (f e o))) in
+    (λ f e o. subst (λ n. AllSmall (part_way tree e.world n (text_width tree e.world n (32 ∷ [])))) (sym c.node.ensures) (f e o))) in
     record {
       goes = chain.goes;
-      value = λ e o. c.text_width.ensures.value e o ∙ ap (λ n. text_width c.args.tree.now e.world n (32 ∷ [])) c.node_at.ensures;
+      value = λ e o. c.text_width.ensures.value e o ∙ ap (λ n. text_width c.args.tree.now e.world n (32 ∷ [])) c.node.ensures;
       cause = chain.cause;
     }

@@ -11,7 +11,7 @@ use Rattle.lay_margin.specs.Runs.{run_at}
 use Rattle.lay_margin.specs.steps.Leads.{enters, going_at, lead_of}
 use Rattle.viz_calc.proofs.Blamed.{ButMem-given, Blames-but-mem}
 use Rattle.lay_margin.proofs.Fitted.{box-fits, kids-fit}
-use Rattle.lay_margin.proofs.Kids.{flow-kids}
+use Rattle.lay_tree.proofs.Kids.{flow-kids}
 use Rattle.lay_margin.proofs.KidSteps.{kid-through}
 use Rattle.lay_margin.proofs.Levels.{lead-is}
 use Rattle.lay_margin.proofs.leads.+lead.Goals.{kid-in-Through, kid-in_default}
@@ -95,7 +95,7 @@ content-returns-then-not-holds_inline g t c = record {
       let tree = c.args.tree.now in
       let no_lines : holds_inline tree c.args.b ≡ false = grind arith in
       ButMem-given (run c.args.calc.now) (run c.kids.new.calc) _ _
-      (λ f e o. subst (KidsFit tree e.world (band_at at c.args.band.now e)) (flow-kids tree c.args.b no_lines ∙ sym c.kids_at.ensures.value) (f e o))
+      (λ f e o. subst (KidsFit tree e.world (band_at at c.args.band.now e)) (flow-kids tree c.args.b no_lines ∙ sym c.children.ensures.value) (f e o))
       c.kids.ensures.cause;
 }
 

@@ -153,12 +153,12 @@ of_blocks-loop-kid-preserved g t c =
     let r2 = run c.outer-child.new.calc in
     let r3 = run c.with_child-column.new.calc in
     let to_child = Goes-then r0 r1 r2 before.goes one.goes in
-    let kids = c.kids_at-kid-items.result.now in
+    let kids = c.children-kid-items.result.now in
     let i = c.loop-kid.kid-index in
     let within : i < length kids = grind arith in
     let kid = slice_index_or kids i 0 in
-    let there = (c.kids_at-kid-items.ensures.each i within).1 in
-    let next = λ (cap : ℕ → ℕ). subst (λ (ks : List ℕ). sum (map cap (drop i ks)) ≡ cap kid + sum (map cap (drop (i + 1) ks))) c.kids_at-kid-items.ensures.value (caps-next cap kids i within) in
+    let there = (c.children-kid-items.ensures.each i within).1 in
+    let next = λ (cap : ℕ → ℕ). subst (λ (ks : List ℕ). sum (map cap (drop i ks)) ≡ cap kid + sum (map cap (drop (i + 1) ks))) c.children-kid-items.ensures.value (caps-next cap kids i within) in
     record {
       goes = Goes-then r0 r2 r3 to_child add.goes;
       found = found-later at tree r2 r3 _ add.goes one.found;
@@ -176,7 +176,7 @@ of_blocks-loop-kid-preserved g t c =
           let so_far = before.room f e o2 in
           let left = next f.cap in
           let child = subst (AreWithin (f.cap kid)) (sym (one.value e o1)) (outer-within tree r0.is_open f e o3 kid there) in
-          let grown = child-reach (column_at at c.loop-kid.column e) c.floats_at.result (preferred_at at c.outer-child.result e) (f.cap kid) child in
+          let grown = child-reach (column_at at c.loop-kid.column e) c.is_floated.result (preferred_at at c.outer-child.result e) (f.cap kid) child in
           let same = ap (λ (x : Column ℤ). run_reach x.floats) (add.value e o) in
           omega (arith, so_far, left, grown, same);
       cause =

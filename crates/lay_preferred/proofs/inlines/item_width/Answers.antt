@@ -21,7 +21,7 @@ returns-in-Word g c = record {
       record {
         mem = why.mem;
         coeff = λ f. why.coeff (λ e o.
-            subst (λ (n : ℕ). AllSmall (part_way tree e.world n (text_width tree e.world n text))) (sym c.node_at.ensures)
+            subst (λ (n : ℕ). AllSmall (part_way tree e.world n (text_width tree e.world n text))) (sym c.node.ensures)
             (subst (ItemFits tree e.world) (ap item_of c.in-Word.is) (f e o)));
         opens = why.opens;
       };

@@ -14,12 +14,12 @@ pub returns : goal.returns
 unfolding chars
 returns g c = record {
   goes = grind (arith, common_steps);
-  value = λ e o. c.text_width.ensures.value e o ∙ ap (λ n. text_width c.args.tree.now e.world n (32 ∷ [])) c.node_at.ensures;
+  value = λ e o. c.text_width.ensures.value e o ∙ ap (λ n. text_width c.args.tree.now e.world n (32 ∷ [])) c.node.ensures;
   cause =
       let why = c.text_width.ensures.cause in
       record {
         mem = why.mem;
-        coeff = λ f. why.coeff (λ e o. subst (λ (n : ℕ). AllSmall (part_way c.args.tree.now e.world n (text_width c.args.tree.now e.world n (32 ∷ [])))) (sym c.node_at.ensures) (f e o));
+        coeff = λ f. why.coeff (λ e o. subst (λ (n : ℕ). AllSmall (part_way c.args.tree.now e.world n (text_width c.args.tree.now e.world n (32 ∷ [])))) (sym c.node.ensures) (f e o));
         opens = why.opens;
       };
 }

@@ -1,7 +1,0 @@
-use Rattle.std.proofs.Common.{arith}
-use Rattle.std.proofs.lemmas.Grind.{common_steps}
-use Rattle.lay_margin.proofs.ContentLemmas.{content-floats}
-use Rattle.lay_margin.proofs.contents.+floats.Goals as goal
-
-pub add_floats-returns : goal.add_floats-returns
-add_floats-returns t c = let is = content-floats c.args.tree.now c.args.b in grind (arith, common_steps)

@@ -1,0 +1,4 @@
+pub mod Containers
+pub mod Definite
+pub mod Kids
+pub mod ContentLemmas

@@ -1,4 +1,0 @@
-use Rattle.lay_width.proofs.heights.+container.Given as goal
-
-abbrev pub decreases-container : goal.decreases-container
-decreases-container l = l.levels
