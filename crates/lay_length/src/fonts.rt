@@ -5,6 +5,7 @@ ghost use Rattle.viz_base.specs.declared.limits.TheConstants.{MOST_CHARACTERS};
 ghost use Rattle.viz_calc.specs.State.{AllSmall};
 ghost use Rattle.viz_calc.specs.Run.{Lays};
 ghost use Rattle.viz_base.specs.FontSizes.{fraction, default_size};
+ghost use Rattle.viz_base.specs.Words.{font_in, units_in};
 ghost use Rattle.layout_semantics.specs.Fonts.{font_size as font_size_of, line_height as line_height_of};
 ghost use Rattle.layout_semantics.specs.Fonts.{ascent as ascent_of, descent as descent_of, text_width as text_width_of};
 ghost use Rattle.lay_length.specs.Ways.{size_way, part_way, line_way};
@@ -12,7 +13,7 @@ ghost use Rattle.lay_length.specs.Ways.{size_way, part_way, line_way};
 use crate::lengths::{pixels, zero};
 use crate::texts::advances_of;
 use lay_tree::nodes::{font, own_line_height, own_size, parent_node};
-use viz_base::{BoxTree, Font, LineHeight, Size};
+use viz_base::{BoxTree, Font, LineHeight, Size, Word};
 use viz_calc::Steady;
 
 /// A part of the default font size.
@@ -117,6 +118,21 @@ pub fn text_width<S: Steady>(calc: &mut S, tree: &BoxTree, node: u32, text: &str
 {
     match font(tree, node) {
         Some(font) => measure(calc, tree, node, font, advances_of(font, text) as i64),
+        None => zero(calc),
+    }
+}
+
+/// The width of a word that the tree keeps, in 1/64 px: the sum of its advances, and then the fraction.
+pub fn word_width<S: Steady>(calc: &mut S, tree: &BoxTree, node: u32, word: &Word) -> S::Num
+    requires { word.now.units
+        ≡ units_in (font_in tree.now.styles tree.now.fonts node) word.now.letters }
+    ensures { Lays S.run calc.old calc.new (S.at result)
+        (λ e. text_width_of tree.now e.world node word.now.letters)
+        (λ e. AllSmall (part_way tree.now e.world node
+        (text_width_of tree.now e.world node word.now.letters))) }
+{
+    match font(tree, node) {
+        Some(font) => measure(calc, tree, node, font, word.units),
         None => zero(calc),
     }
 }

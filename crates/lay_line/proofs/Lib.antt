@@ -21,7 +21,6 @@ pub mod FloatSteps
 pub mod Entering
 pub mod NextLines
 pub mod LineEnds
-pub mod ShortWords
 pub mod LineBegins
 pub mod AllLines
 pub mod Placing

@@ -4,6 +4,8 @@ ghost use Rattle.layout_semantics.specs.Segments.{is_thing, is_end, is_space, is
 ghost use Rattle.lay_line.specs.Items.{item_of};
 ghost use Rattle.lay_line.specs.steps.Staying.{is_solid as is_solid_of};
 
+use viz_base::Word;
+
 /// An item of inline content, with the place of its box in the tree.
 #[derive(Clone, Copy)]
 pub enum Item<'a> {
@@ -11,8 +13,8 @@ pub enum Item<'a> {
     Start(u32),
     /// Its end.
     Finish(u32),
-    /// A word of a text.
-    Word(u32, &'a str),
+    /// A word of a text, as the tree keeps it.
+    Word(u32, &'a Word),
     /// A space of a text.
     Space(u32),
     /// An atomic inline-level box.

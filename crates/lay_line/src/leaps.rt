@@ -66,10 +66,19 @@ impl Guess {
     }
 }
 
+/// How many bytes letters take in a text.
+fn bytes_of(letters: &[char]) -> u64 {
+    let mut size = 0u64;
+    for letter in letters {
+        size = size.saturating_add(letter.len_utf8() as u64);
+    }
+    size
+}
+
 /// How much text an item is.
 fn size_of(item: &Item) -> u64 {
     match item {
-        Item::Word(_, text) => text.len() as u64,
+        Item::Word(_, word) => bytes_of(word.letters.as_slice()),
         Item::Space(_) => 1,
         _ => 0,
     }

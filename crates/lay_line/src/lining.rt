@@ -9,11 +9,11 @@ ghost use Rattle.layout_semantics.specs.Lines.{lines_in};
 ghost use Rattle.layout_semantics.specs.Segments.{may_part};
 ghost use Rattle.lay_float.specs.Readings.{floats_at};
 ghost use Rattle.lay_line.specs.Contexts.{context_at};
-ghost use Rattle.lay_line.specs.Items.{items_of};
+ghost use Rattle.lay_line.specs.Items.{items_of, summed_of};
 ghost use Rattle.lay_line.specs.LinesFit.{RestFits, LinesFit};
 ghost use Rattle.lay_line.specs.Lining.{so_far_at, next_of, laid_at};
 ghost use Rattle.lay_line.specs.Readings.{pieces_at, parts_at, entries_at};
-ghost use Rattle.lay_line.specs.steps.Content.{IsShort};
+ghost use Rattle.lay_line.specs.steps.Content.{IsSum};
 ghost use Rattle.lay_line.specs.steps.Leaping.{AreWide};
 ghost use Rattle.lay_line.specs.steps.Lining.{laying};
 ghost use Rattle.lay_line.specs.steps.Marks.{marks as marks_of};
@@ -178,7 +178,7 @@ fn items_in<'t, S: Steady>(alloc: Global, calc: &mut S, tree: &'t BoxTree, at: u
     ensures value { WhereOpen (S.run calc.new).is_open
         (λ e. items_of result.items ≡ content_of tree.now at) }
     ensures cause { BlamesButMem (S.run calc.old) (S.run calc.new) ⊤ }
-    ensures short { AllByRecursion IsShort (items_of result.items) }
+    ensures kept { AllByRecursion (IsSum tree.now) (summed_of result.items) }
 {
     match content(alloc, tree, at) {
         Ok(items) => items,

@@ -9,9 +9,9 @@ ghost use Rattle.layout_semantics.specs.Fonts.{text_width as text_width_of};
 ghost use Rattle.layout_semantics.specs.InlineContent.{start, finish, atomic};
 ghost use Rattle.layout_semantics.specs.LineFilling.{band_width as width_of, used_edges};
 ghost use Rattle.lay_line.specs.Contexts.{context_at};
-ghost use Rattle.lay_line.specs.Items.{item_of, items_of};
+ghost use Rattle.lay_line.specs.Items.{item_of, items_of, summed, summed_of};
 ghost use Rattle.lay_line.specs.Readings.{piece_at, pieces_at};
-ghost use Rattle.lay_line.specs.steps.Content.{IsShort};
+ghost use Rattle.lay_line.specs.steps.Content.{IsSum};
 ghost use Rattle.lay_line.specs.steps.Measured.{measured};
 ghost use Rattle.lay_line.specs.steps.Words.{width_in};
 ghost use Rattle.lay_length.specs.Ways.{part_way};
@@ -20,7 +20,7 @@ ghost use Rattle.lay_line.specs.Fits.{SideFits, WidthFits};
 use crate::containers::{Container, inner_of};
 use crate::held::Piece;
 use crate::items::Item;
-use lay_length::fonts::text_width;
+use lay_length::fonts::{text_width, word_width};
 use lay_length::lengths::{used, zero};
 use lay_tree::boxes::node;
 use lay_tree::styles::{borders, margins, paddings};
@@ -119,13 +119,13 @@ fn space_width<S: Steady>(calc: &mut S, tree: &BoxTree, at: u32) -> S::Num
 #[tactic(auto, unfolding(crate::specs::Contexts::context_at, crate::specs::steps::Words::width_in, crate::specs::Fits::WidthFits))]
 /// What an item takes of a line.
 fn item_width<S: Steady>(calc: &mut S, container: &Container<'_, S::Num>, item: &Item) -> S::Num
-    requires { IsShort (item_of item.now) }
+    requires { IsSum container.now.tree.now (summed item.now) }
     ensures { Lays S.run calc.old calc.new (S.at result)
         (λ e. width_in (context_at S.at container.now e) (item_of item.now))
         (λ e. WidthFits (context_at S.at container.now e) (item_of item.now)) }
 {
     match item {
-        Item::Word(at, text) => text_width(calc, container.tree, node(container.tree, *at), text),
+        Item::Word(at, word) => word_width(calc, container.tree, node(container.tree, *at), word),
         Item::Space(at) => space_width(calc, container.tree, *at),
         Item::Atomic(at) => atomic_width(calc, container, *at),
         Item::Start(at) => start_width(calc, container, *at),
@@ -155,7 +155,7 @@ pub fn measure<'a, S: Steady>(
     container: &Container<'_, S::Num>,
     items: &[Item<'a>],
 ) -> Vec<Piece<'a, S::Num>>
-    requires { AllByRecursion IsShort (items_of items.now) }
+    requires { AllByRecursion (IsSum container.now.tree.now) (summed_of items.now) }
     ensures { LaysButMem S.run calc.old calc.new (pieces_at S.at result.items)
         (λ e. measured (width_in (context_at S.at container.now e)) (items_of items.now))
         (λ e. AllByRecursion (WidthFits (context_at S.at container.now e)) (items_of items.now)) }

@@ -5,10 +5,10 @@ ghost use Rattle.std.specs.List.{AllByRecursion};
 ghost use Rattle.viz_calc.specs.Run.{Goes, BlamesButMem};
 ghost use Rattle.layout_semantics.specs.Preferred.{inside_of, inline_content, blocks, preferred as preferred_of};
 ghost use Rattle.lay_width.specs.Readings.{preferred_at};
-ghost use Rattle.lay_line.specs.Items.{item_of, items_of};
+ghost use Rattle.lay_line.specs.Items.{item_of, items_of, summed, summed_of};
 ghost use Rattle.lay_preferred.specs.Fitting.{BoxesFit, ItemFits};
 ghost use Rattle.lay_preferred.specs.Readings.{sizes_at, AreFound};
-ghost use Rattle.lay_line.specs.steps.Content.{IsShort};
+ghost use Rattle.lay_line.specs.steps.Content.{IsSum};
 ghost use Rattle.lay_preferred.specs.steps.Outer.{outer as outer_of};
 ghost use Rattle.lay_preferred.specs.steps.Parts.{sized, widths_of, inline_in, blocks_in, IsInside};
 
@@ -61,7 +61,7 @@ fn item_widths<S: Steady>(
     item: &Item,
     found: &mut Found<S::Num>,
 ) -> Preferred<S::Num>
-    requires short { IsShort (item_of item.now) }
+    requires kept { IsSum tree.now (summed item.now) }
     requires inside { IsInside tree.now b (item_of item.now) }
     requires found { AreFound S.at (S.run calc.old) tree.now found.old.widths.items }
     ensures goes { Goes (S.run calc.old) (S.run calc.new) }
@@ -92,7 +92,7 @@ fn measure<'a, S: Steady>(
     items: &[Item<'a>],
     found: &mut Found<S::Num>,
 ) -> Vec<Piece<'a, Preferred<S::Num>>>
-    requires short { AllByRecursion IsShort (items_of items.now) }
+    requires kept { AllByRecursion (IsSum tree.now) (summed_of items.now) }
     requires inside { AllByRecursion (IsInside tree.now b) (items_of items.now) }
     requires found { AreFound S.at (S.run calc.old) tree.now found.old.widths.items }
     ensures goes { Goes (S.run calc.old) (S.run calc.new) }

@@ -7,12 +7,12 @@ ghost use Rattle.layout_semantics.specs.Fonts.{text_width as text_width_of};
 ghost use Rattle.layout_semantics.specs.Preferred.{inside_of};
 ghost use Rattle.layout_semantics.specs.Segments.{may_part, never};
 ghost use Rattle.lay_width.specs.Readings.{preferred_at};
-ghost use Rattle.lay_line.specs.Items.{item_of, items_of};
+ghost use Rattle.lay_line.specs.Items.{item_of, items_of, summed};
 ghost use Rattle.lay_line.specs.steps.Marks.{marks as marks_of};
 ghost use Rattle.lay_preferred.specs.Fitting.{leasts, mosts, IsHalf, TextFits, ItemFits};
 ghost use Rattle.lay_preferred.specs.Readings.{size_at, sizes_at, parts_at};
 ghost use Rattle.lay_preferred.specs.Sorts.{inside_by};
-ghost use Rattle.lay_line.specs.steps.Content.{IsShort};
+ghost use Rattle.lay_line.specs.steps.Content.{IsSum};
 ghost use Rattle.lay_preferred.specs.steps.Extremes.{or_zero as of_or_zero};
 ghost use Rattle.lay_preferred.specs.steps.Outer.{both as both_of};
 ghost use Rattle.lay_preferred.specs.steps.Parts.{width_of, least_width, most_width, widest, widest_float as float_of, inline_of};
@@ -20,7 +20,7 @@ ghost use Rattle.lay_preferred.specs.steps.Parts.{width_of, least_width, most_wi
 use crate::extremes::or_zero;
 use crate::outer::{end_width, start_width};
 use crate::parts::{widest_float, widest_piece, widest_segment};
-use lay_length::fonts::text_width;
+use lay_length::fonts::{text_width, word_width};
 use lay_length::lengths::zero;
 use lay_line::breaks::{Parting, marks};
 use lay_line::held::Piece;
@@ -179,13 +179,13 @@ fn space_width<S: Steady>(calc: &mut S, tree: &BoxTree, at: u32) -> S::Num
 #[tactic(auto, unfolding(crate::specs::steps::Parts::width_of))]
 /// What an item takes that is no box.
 pub fn item_width<S: Steady>(calc: &mut S, tree: &BoxTree, item: &Item) -> S::Num
-    requires { IsShort (item_of item.now) }
+    requires { IsSum tree.now (summed item.now) }
     ensures { Lays S.run calc.old calc.new (S.at result)
         (λ e. width_of tree.now e.world (item_of item.now))
         (λ e. ItemFits tree.now e.world (item_of item.now)) }
 {
     match item {
-        Item::Word(at, text) => text_width(calc, tree, node(tree, *at), text),
+        Item::Word(at, word) => word_width(calc, tree, node(tree, *at), word),
         Item::Space(at) => space_width(calc, tree, *at),
         Item::Start(at) => start_width(calc, tree, *at),
         Item::Finish(at) => end_width(calc, tree, *at),

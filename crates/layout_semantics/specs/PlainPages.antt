@@ -1,5 +1,5 @@
 -- Pages without the facts that their types keep: a law of a page holds whatever the proofs of these are.
-use Rattle.std.specs.Prelude.{ℕ, Bool, List, [], ◌∷◌, Option}
+use Rattle.std.specs.Prelude.{ℕ, Bool, List, [], ◌∷◌, Option, refl}
 use Rattle.viz_base.specs.declared.fonts.Font.{Font}
 use Rattle.viz_base.specs.declared.lengths.Length.{Length}
 use Rattle.viz_base.specs.declared.lengths.LineHeight.{LineHeight}
@@ -16,6 +16,7 @@ use Rattle.viz_base.specs.declared.trees.BoxNode.{BoxNode}
 use Rattle.viz_base.specs.Styles.{IsStyle}
 use Rattle.viz_base.specs.Fonts.{IsFont}
 use Rattle.viz_base.specs.Trees.{IsBoxTree}
+use Rattle.viz_base.specs.Words.{words_of}
 
 pub record PlainStyle : Type 0 where
   pub display : Display
@@ -121,5 +122,7 @@ tree t ok = record {
   styles = styles t.styles ok.of_styles;
   fonts = fonts t.fonts ok.of_fonts;
   parents = t.parents;
+  words = words_of t.boxes (styles t.styles ok.of_styles) (fonts t.fonts ok.of_fonts);
   ok = ok.whole;
+  kept = refl;
 }

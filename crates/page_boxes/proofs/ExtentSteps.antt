@@ -22,7 +22,8 @@ use Rattle.viz_base.specs.Reaches.{extent, font_extent, intrinsic_extent, is_of_
 use Rattle.layout_laws.proofs.Members.{no_member, first_member}
 use Rattle.layout_laws.proofs.Reaching.{ratio_least}
 use Rattle.viz_base.specs.Trees.{length_nodes, line_nodes, maximum_nodes, named_nodes, sides_nodes, valign_nodes}
-use Rattle.page_boxes.specs.steps.Extents.{capped, extent_in, font_extent_in, font_in, lengths_extent, line_in, measured_in, most_extent, own_in, part_of, raise_in, sides_extent, size_at, style_extent_in, text_in, widths_in}
+use Rattle.viz_base.specs.Words.{font_in}
+use Rattle.page_boxes.specs.steps.Extents.{capped, extent_in, font_extent_in, lengths_extent, line_in, measured_in, most_extent, own_in, part_of, raise_in, sides_extent, size_at, style_extent_in, text_in, widths_in}
 use Rattle.page_boxes.proofs.Capped.{Alike, alike_add, alike_capped, alike_times, alike_trans}
 use Rattle.page_boxes.proofs.FontSteps.{IsExact, IsSize, fraction_is, is_size, nonnegative, sizes_of}
 

@@ -1,5 +1,6 @@
 pub mod Lists
 pub mod Turns
+pub mod WordSteps
 pub mod NodeSteps
 pub mod SpaceSteps
 pub mod Bounds

@@ -5,3 +5,4 @@ pub mod Leads
 pub mod Places
 pub mod Refusing
 pub mod Extents
+pub mod Words

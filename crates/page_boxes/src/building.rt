@@ -19,6 +19,7 @@ use crate::reaches::beyond_reach;
 use crate::refusals::{block_in_inline, right_to_left};
 use crate::spaces::collapsed;
 use crate::styles::tree_styles;
+use crate::words::words_of;
 use std::alloc::Global;
 use viz_base::{BoxNode, BoxTree, Font, List, MOST_BOXES, Mem, Page, Style};
 
@@ -114,10 +115,12 @@ pub fn build_boxes(
         return Err(BoxFault::Reach(node));
     }
     let fonts = copy_fonts(alloc, fonts.as_slice())?;
+    let words = words_of(alloc, boxes.as_slice(), used.as_slice(), fonts.as_slice())?;
     Ok(BoxTree {
         boxes,
         styles: used,
         fonts,
         parents,
+        words,
     })
 }

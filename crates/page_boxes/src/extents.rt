@@ -4,7 +4,8 @@ ghost use Rattle.std.specs.Option.{option_copied};
 ghost use Rattle.viz_base.specs.Styles.{is_good_line};
 ghost use Rattle.viz_base.specs.FontSizes.{advance};
 ghost use Rattle.viz_base.specs.Reaches.{intrinsic_extent, is_of_element, quotient_up, ratio};
-ghost use Rattle.page_boxes.specs.steps.Extents.{AreCapped, extent_in, font_extent_in, lengths_extent, line_in, measured_in, most, most_extent, font_in, own_in, raise_in, sides_extent, style_extent_in, text_in, widths_in};
+ghost use Rattle.viz_base.specs.Words.{font_in};
+ghost use Rattle.page_boxes.specs.steps.Extents.{AreCapped, extent_in, font_extent_in, lengths_extent, line_in, measured_in, most, most_extent, own_in, raise_in, sides_extent, style_extent_in, text_in, widths_in};
 
 use crate::fonts::{capped, part_of, size_at};
 use crate::letters::letters_of;
@@ -197,7 +198,7 @@ fn advance_in(advances: &[(char, u32)], letter: char) -> Option<u32>
 }
 
 /// The advance of a character: that of its entry, or the font's for all others.
-fn advance(font: &Font, letter: char) -> u32
+pub fn advance(font: &Font, letter: char) -> u32
     ensures { result ≡ advance font.now letter }
 {
     advance_in(font.advances.as_slice(), letter).unwrap_or(font.other)
@@ -218,7 +219,7 @@ fn widths(font: &Font, size: u64, letters: &[char]) -> u64
 }
 
 /// The font of a node.
-fn font_at<'a>(styles: &[Style], fonts: &'a [Font], node: u32) -> Option<&'a Font>
+pub fn font_at<'a>(styles: &[Style], fonts: &'a [Font], node: u32) -> Option<&'a Font>
     ensures { option_copied result ≡ font_in styles.now fonts.now node }
 {
     match styles.get(node as usize) {

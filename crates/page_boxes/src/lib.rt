@@ -17,6 +17,7 @@ mod refusals;
 mod spaces;
 mod styles;
 mod tables;
+mod words;
 
 pub use building::build_boxes;
 pub use faults::BoxFault;

@@ -1,6 +1,6 @@
 -- What is kept of a font, a style, a box tree or a job beside its fields has one proof at most, so the fields are all of it.
 use mathlib.Core.HLevel.{is_prop→PathP}
-use Rattle.std.proofs.Common.{◌≡◌, ℕ, List, [], ◌∷◌, map, Option, refl, ◌∙◌, ap}
+use Rattle.std.proofs.Common.{◌≡◌, ℕ, List, [], ◌∷◌, map, Option, refl, sym, ◌∙◌, ap}
 use Rattle.std.proofs.Props.{props}
 use Rattle.viz_base.specs.declared.fonts.Font.{Font}
 use Rattle.viz_base.specs.declared.formulas.Formula.{Formula}
@@ -13,13 +13,15 @@ use Rattle.viz_base.specs.declared.lengths.Valign.{Valign}
 use Rattle.viz_base.specs.declared.styles.Style.{Style}
 use Rattle.viz_base.specs.declared.trees.BoxNode.{BoxNode}
 use Rattle.viz_base.specs.declared.trees.BoxTree.{BoxTree}
+use Rattle.viz_base.specs.declared.trees.Word.{Word}
 use Rattle.viz_base.specs.declared.worlds.Rect.{Rect}
 use Rattle.viz_base.specs.Fonts.{IsFont}
 use Rattle.viz_base.specs.Jobs.{IsJob}
 use Rattle.viz_base.specs.Styles.{IsStyle}
 use Rattle.viz_base.specs.Trees.{AreAlikeButSize, IsBoxTree}
+use Rattle.viz_base.specs.Words.{words_of}
 use Rattle.page_json.specs.Fonts.{measures_of}
-use Rattle.page_boxes.specs.Trees.{lists_of}
+use Rattle.page_boxes.specs.Trees.{TreeLists, lists_of}
 
 -- ---- fonts
 
@@ -81,10 +83,15 @@ same_style s t h e =
 tree_prop : (boxes : List BoxNode) (styles : List Style) (fonts : List Font) (parents : List (Option ℕ)) → IsProp (IsBoxTree boxes styles fonts parents)
 tree_prop boxes styles fonts parents = hlevel props
 
+words_prop : (kept words : List (List Word)) → IsProp (kept ≡ words)
+words_prop kept words = hlevel props
+
 pub same_tree : (a b : BoxTree) → lists_of a ≡ lists_of b → a ≡ b
 same_tree a b e =
     let keeps = is_prop→PathP (λ i. IsBoxTree (e i).boxes (e i).styles (e i).fonts (e i).parents) (λ i. tree_prop (e i).boxes (e i).styles (e i).fonts (e i).parents) a.ok b.ok in
-    λ i. record { boxes = (e i).boxes; styles = (e i).styles; fonts = (e i).fonts; parents = (e i).parents; ok = keeps i }
+    let words : a.words ≡ b.words = a.kept ∙ (ap (λ (t : TreeLists). words_of t.boxes t.styles t.fonts) e ∙ sym b.kept) in
+    let kept = is_prop→PathP (λ i. words i ≡ words_of (e i).boxes (e i).styles (e i).fonts) (λ i. words_prop (words i) (words_of (e i).boxes (e i).styles (e i).fonts)) a.kept b.kept in
+    λ i. record { boxes = (e i).boxes; styles = (e i).styles; fonts = (e i).fonts; parents = (e i).parents; words = words i; ok = keeps i; kept = kept i }
 
 job_prop : (form : ℕ) (range : Rect) (tree : BoxTree) (formula : Formula) → IsProp (IsJob form range tree.boxes tree.styles tree.fonts tree.parents formula)
 job_prop form range tree formula = hlevel props

@@ -59,5 +59,5 @@ pub use sheets::{Bound, Decl, Feature, MediaEntry, Rule, Sheet};
 pub use styles::{Align, Clear, Display, Side, Style};
 pub use texts::Text;
 pub use tokens::TokenKind;
-pub use trees::{BoxNode, BoxTree, Kind};
+pub use trees::{BoxNode, BoxTree, Kind, Word};
 pub use worlds::{Axis, Rect, Span, World};

@@ -1,4 +1,6 @@
+ghost use Rattle.std.specs.Prelude.{◌≡◌};
 ghost use Rattle.viz_base.specs.Trees.{IsBoxTree};
+ghost use Rattle.viz_base.specs.Words.{words_of};
 
 use crate::{Font, List, Style, Text};
 
@@ -45,6 +47,15 @@ pub struct BoxNode {
     pub block_level: bool,
 }
 
+/// What stands between two spaces of a text.
+#[derive(Drop)]
+pub struct Word {
+    /// Its characters, none between two spaces that stand together.
+    pub letters: List<char>,
+    /// The sum of their advances, in units of its font's em square.
+    pub units: i64,
+}
+
 /// The boxes of a page with all that layout needs of its nodes and fonts.
 #[derive(Drop)]
 pub struct BoxTree {
@@ -55,6 +66,10 @@ pub struct BoxTree {
     pub fonts: List<Font>,
     /// The parent of each node.
     pub parents: List<Option<u32>>,
+    /// For each box the words of its text: what stands before, between and behind its spaces.
+    pub words: List<List<Word>>,
     /// It is the box tree of some page.
     pub ghost ok: { IsBoxTree boxes styles fonts parents },
+    /// The words are those of its boxes, in their fonts.
+    pub ghost kept: { words ≡ words_of boxes styles fonts },
 }

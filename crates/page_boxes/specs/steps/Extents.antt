@@ -1,7 +1,7 @@
 -- The walks over boxes that find the first with which a page reaches too far.
 -- Each number is the exact one, or stands for all that are past 2^40.
 use Rattle.std.specs.Prelude.{ℕ, ◌+◌, ◌*◌, ◌^◌, ◌≤◌, nat_le, nat_lt, unsigned_abs, pos, ℤ, List, [], ◌∷◌, ◌++◌, slice_index_or, slice_get, chars, Option, Some, None, Result, Ok, Err, if◌then◌else◌}
-use Rattle.std.specs.Option.{option_map_or, option_and_then}
+use Rattle.std.specs.Option.{option_map_or}
 use Rattle.viz_base.specs.declared.fonts.Font.{Font}
 use Rattle.viz_base.specs.declared.lengths.Length.{Length}
 use Rattle.viz_base.specs.declared.lengths.Length.TheVariants as of_length
@@ -16,6 +16,7 @@ use Rattle.viz_base.specs.declared.styles.Style.{Style}
 use Rattle.viz_base.specs.declared.trees.BoxNode.{BoxNode}
 use Rattle.viz_base.specs.FontSizes.{fraction, advance}
 use Rattle.viz_base.specs.Reaches.{whole, quotient_up, is_of_element, ratio, intrinsic_extent, box_growth}
+use Rattle.viz_base.specs.Words.{font_in}
 use Rattle.page_boxes.specs.steps.Tables.{held}
 
 -- the most units that a page may reach
@@ -103,9 +104,6 @@ own_in sizes styles fonts b =
 abbrev pub widths_in : Font → ℕ → ℕ → List ℕ → ℕ
 widths_in font size total [] = total
 widths_in font size total (c ∷ cs) = widths_in font size (capped (total + measured_in font size (advance font c))) cs
-
-abbrev pub font_in : List Style → List Font → ℕ → Option Font
-font_in styles fonts node = option_and_then (λ (s : Style). slice_get fonts s.font) (slice_get styles node)
 
 abbrev pub text_in : List ℕ → List Style → List Font → BoxNode → ℕ
 text_in sizes styles fonts b =

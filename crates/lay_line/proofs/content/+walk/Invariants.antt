@@ -1,6 +1,6 @@
 use Rattle.std.proofs.Common.{◌≡◌, ◌-◌, ◌+◌, ◌*◌, ◌++◌, length, drop, flat_map}
 use Rattle.layout_semantics.specs.Order.{kids_of}
-use Rattle.lay_line.specs.Items.{items_of}
+use Rattle.lay_line.specs.Items.{summed_of}
 use Rattle.lay_line.specs.steps.Content.{own_items}
 use Rattle.lay_line.proofs.content.+walk.Given as goal
 
@@ -12,5 +12,5 @@ decreases-add_content l = 2 * (length l.tree.now.boxes - l.at)
 
 abbrev pub invariant-add_content-loop-kid : goal.invariant-add_content-loop-kid
 invariant-add_content-loop-kid l =
-    items_of l.items.items ++ flat_map (own_items l.tree) (drop l.kid-index (kids_of l.tree.boxes l.at))
-    ≡ items_of l.initial.items.items ++ flat_map (own_items l.tree) (kids_of l.tree.boxes l.at)
+    summed_of l.items.items ++ flat_map (own_items l.tree) (drop l.kid-index (kids_of l.tree.boxes l.at))
+    ≡ summed_of l.initial.items.items ++ flat_map (own_items l.tree) (kids_of l.tree.boxes l.at)

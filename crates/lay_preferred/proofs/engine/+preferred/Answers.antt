@@ -13,12 +13,12 @@ use Rattle.lay_preferred.proofs.Causes.{all-at, item-copied, fits-later, outer-w
 use Rattle.lay_preferred.proofs.Sizes.{run_reach, child-reach}
 use Rattle.layout_semantics.specs.InlineContent.{content}
 use Rattle.layout_semantics.specs.Preferred.{a_replaced, inline_content, blocks, inside_of}
-use Rattle.lay_line.specs.Items.{item_of, items_of}
+use Rattle.lay_line.specs.Items.{item_of, items_of, summed, summed_of}
+use Rattle.lay_line.specs.declared.items.Item.{Item}
 use Rattle.lay_preferred.specs.Readings.{sizes_at, column_at}
-use Rattle.lay_line.specs.steps.Content.{IsShort}
+use Rattle.lay_line.specs.steps.Content.{IsSum}
 use Rattle.lay_preferred.specs.steps.Outer.{is_given, around}
 use Rattle.lay_preferred.specs.steps.Parts.{IsInside, inline_in, blocks_in, sized, widths_of}
-use Rattle.lay_line.proofs.ShortWords.{content-short}
 use Rattle.lay_preferred.proofs.Founds.{found-later, found-at, found-kept}
 use Rattle.lay_preferred.proofs.Levels.{of-replaced, of-inline, of-blocks, content-inside, all-later}
 use Rattle.lay_preferred.proofs.OuterWidths.{outer-given, outer-inside}
@@ -119,7 +119,7 @@ measure-loop-item-preserved g t c =
       goes = Goes-then (run c.args.calc.now) (run c.item_widths-width.new.calc) (run c.add_piece.new.calc)
           (Goes-then (run c.args.calc.now) (run c.loop-item.calc) (run c.item_widths-width.new.calc) c.loop-item.invariant.goes one.goes) add.goes;
       found = found-later at c.args.tree.now (run c.item_widths-width.new.calc) (run c.add_piece.new.calc) _ add.goes one.found;
-      short = all-later item_of IsShort c.args.items.now c.loop-item.item-index c.loop-item.invariant.short;
+      kept = all-later summed (IsSum c.args.tree.now) c.args.items.now c.loop-item.item-index c.loop-item.invariant.kept;
       inside = all-later item_of (IsInside c.args.tree.now c.args.b) c.args.items.now c.loop-item.item-index c.loop-item.invariant.inside;
       value = λ e o.
           let o1 = add.goes.closes e o in
@@ -133,7 +133,8 @@ measure-loop-item-preserved g t c =
           let first = BlamesButMem-then (run c.args.calc.now) (run c.loop-item.calc) (run c.item_widths-width.new.calc) _ _ before.goes one.goes before.cause
           (λ f. (
             fits-later c.args.tree.now (run c.args.calc.now) (run c.loop-item.calc) before.goes f.0,
-            λ e o. all-at item_of (ItemFits c.args.tree.now e.world) c.args.items.now c.loop-item.item-index _ (f.1 e (before.goes.closes e o)) (grind arith),
+            λ e o. subst (λ (i : Item). ItemFits c.args.tree.now e.world (item_of i)) (sym c.item-item.is)
+                (all-at item_of (ItemFits c.args.tree.now e.world) c.args.items.now c.loop-item.item-index c.item-item.result (f.1 e (before.goes.closes e o)) (grind arith)),
           ))
           one.cause in
           BlamesButMem-then (run c.args.calc.now) (run c.item_widths-width.new.calc) (run c.add_piece.new.calc) _ _
@@ -207,9 +208,9 @@ of_blocks-returns-clause-value g t c = λ e o.
 pub of_inline-measure-pieces-requires : goal.of_inline-measure-pieces-requires
 of_inline-measure-pieces-requires g t c =
     let items : items_of c.as_slice.result.now ≡ content c.args.tree.now c.args.b = grind arith in
-    let short : AllByRecursion IsShort (items_of c.as_slice.result.now) = subst (AllByRecursion IsShort) (sym items) (content-short c.args.tree.now c.args.b) in
+    let kept : AllByRecursion (IsSum c.args.tree.now) (summed_of c.as_slice.result.now) = grind arith in
     let inside : AllByRecursion (IsInside c.args.tree.now c.args.b) (items_of c.as_slice.result.now) = subst (AllByRecursion (IsInside c.args.tree.now c.args.b)) (sym items) (content-inside c.args.tree.now c.args.b) in
-    search (arith, short, inside)
+    search (arith, kept, inside)
 
 pub of_inline-returns-in-Ok-clause-found : goal.of_inline-returns-in-Ok-clause-found
 of_inline-returns-in-Ok-clause-found g t c = found-later g.S.Steady.at c.args.tree.now (g.S.Steady.run c.measure-pieces.new.calc) (g.S.Steady.run c.inline_widths.new.calc) _ c.inline_widths.ensures.goes c.measure-pieces.ensures.found
@@ -219,7 +220,7 @@ unfolding inline_in
 of_inline-returns-in-Ok-clause-value g t c = λ e o.
     let sizes = c.measure-pieces.ensures.value e (c.inline_widths.ensures.goes.closes e o) in
     let is = c.inline_widths.ensures.value e o in
-    let items = c.in-Ok.ensures in
+    let items = c.in-Ok.ensures.value in
     grind (arith, common_steps)
 
 pub of_inline-returns-in-Ok-clause-cause : goal.of_inline-returns-in-Ok-clause-cause

@@ -5,8 +5,8 @@ use Rattle.viz_calc.specs.World.{Reading}
 use Rattle.viz_calc.specs.Run.{Goes, BlamesButMem}
 use Rattle.layout_semantics.specs.Order.{kids_of}
 use Rattle.layout_semantics.specs.InlineContent.{is_floated_at}
-use Rattle.lay_line.specs.Items.{items_of}
-use Rattle.lay_line.specs.steps.Content.{IsShort}
+use Rattle.lay_line.specs.Items.{items_of, summed_of}
+use Rattle.lay_line.specs.steps.Content.{IsSum}
 use Rattle.layout_semantics.specs.Preferred.{blocks, inside_of}
 use Rattle.lay_preferred.specs.Fitting.{ItemFits, BoxesFit}
 use Rattle.lay_preferred.specs.Readings.{sizes_at, column_at, AreFound}
@@ -44,7 +44,7 @@ invariant-measure-loop-item g l =
     record {
       goes : Goes (run l.initial.calc) (run l.calc);
       found : AreFound at (run l.calc) l.tree l.found.widths.items;
-      short : AllByRecursion IsShort (items_of (drop l.item-index l.items));
+      kept : AllByRecursion (IsSum l.tree) (summed_of (drop l.item-index l.items));
       inside : AllByRecursion (IsInside l.tree l.b) (items_of (drop l.item-index l.items));
       value : (e : Reading) → IsTrue ((run l.calc).is_open e)
           → sizes_at at l.pieces.items e ++ sized (widths_of l.tree e.world) (items_of (drop l.item-index l.items)) ≡ sized (widths_of l.tree e.world) (items_of l.items);

@@ -1,6 +1,5 @@
 use Rattle.std.proofs.Common.{ℕ, sym, subst, ap, arith}
 use Rattle.std.proofs.lemmas.Grind.{common_steps}
-use Rattle.std.specs.Str.{chars}
 use Rattle.viz_calc.specs.State.{AllSmall}
 use Rattle.layout_semantics.specs.Fonts.{text_width}
 use Rattle.lay_length.specs.Ways.{part_way}
@@ -16,8 +15,8 @@ returns-in-Word g c = record {
   value = grind (arith, common_steps);
   cause =
       let tree = c.args.tree.now in
-      let text = chars c.in-Word.text.now in
-      let why = c.text_width.ensures.cause in
+      let text = c.in-Word.word.now.letters in
+      let why = c.word_width.ensures.cause in
       record {
         mem = why.mem;
         coeff = λ f. why.coeff (λ e o.
