@@ -8,8 +8,8 @@
 - 100 and 400 floats of one block formatting context: at most the square of the count within noise (below 32);
 - a paragraph of 512 and 4,096 words: at most linear within noise (below 10);
 - 500 and 2,000 floats, each before a paragraph of no height with `clear`, whose margins all adjoin, where the floats have no height and
-  where they all stay open: at most the square of the count within noise (below 32), since each float is tried once beside those
-  before it.
+  where they all stay open, the margins being the same, each more than all before, and each less: at most the square of the count
+  within noise (below 32), since each float is tried once beside those before it, at whatever edge.
 
 Run it at the top: bench/flow.py [PROGRAM]
 """
@@ -75,9 +75,8 @@ def many_floats(count):
     return [element("div", f"float:{sides[at % 5]};width:{20 + at * 37 % 90}px;height:{10 + at * 53 % 70}px") for at in range(count)]
 
 
-def waiting_floats(count, style="float:left;height:0"):
-    pair = [element("div", style), element("p", "margin:1px 0;clear:left")]
-    return pair * count
+def waiting_floats(count, style="float:left;height:0", margins=lambda at: 1):
+    return [made for at in range(count) for made in (element("div", style), element("p", f"margin:{margins(at)}px 0;clear:left"))]
 
 
 def paragraph(count):
@@ -126,6 +125,8 @@ def main():
         growth("waiting floats", counts, [pages.lay(waiting_floats(count)) for count in counts], 32)
         still_open = "float:right;width:0;height:9px"
         growth("open ones", counts, [pages.lay(waiting_floats(count, still_open)) for count in counts], 32)
+        for told, margins in (("growing margins", lambda at: at), ("falling margins", lambda at: -at)):
+            growth(told, counts, [pages.lay(waiting_floats(count, still_open, margins)) for count in counts], 32)
 
 
 main()

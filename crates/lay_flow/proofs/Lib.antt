@@ -30,3 +30,6 @@ pub mod BoxesFit
 pub mod LinesFitting
 pub mod PageLimits
 pub mod Tried
+pub mod Levels
+pub mod LevelTrials
+pub mod LevelTells

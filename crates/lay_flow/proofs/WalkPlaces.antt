@@ -1,6 +1,5 @@
 -- Wherever a walk comes to within bounds, what is computed there fits.
-use Rattle.std.proofs.Common.{◌≡◌, ℕ, ◌*◌, ◌<◌, ◌≤◌, ◌^◌, ℤ, true, false, List, [], ◌∷◌, length, refl, sym, ap, subst, ◌∙◌, arith}
-use Rattle.std.specs.Prelude.{unwrap_or}
+use Rattle.std.proofs.Common.{◌≡◌, ℕ, ◌*◌, ◌≤◌, ◌^◌, ℤ, true, false, List, [], ◌∷◌, refl, sym, ap, subst, ◌∙◌, arith}
 use Rattle.std.specs.Option.{option_to_list}
 use Rattle.std.proofs.lemmas.Int.{ints}
 use Rattle.viz_base.specs.declared.layouts.Band.{Band}
@@ -9,20 +8,18 @@ use Rattle.viz_base.specs.declared.layouts.Entry.TheVariants as of_entry
 use Rattle.viz_base.specs.declared.layouts.Widths.{Widths}
 use Rattle.viz_base.specs.declared.trees.BoxTree.{BoxTree}
 use Rattle.viz_base.specs.declared.worlds.World.{World}
-use Rattle.layout_semantics.specs.Flow.{Independent, Cleared, Reached}
-use Rattle.layout_semantics.specs.FlowBoxes.{inline_size, content_from, flow_children, room}
+use Rattle.layout_semantics.specs.Flow.{Independent, Cleared}
+use Rattle.layout_semantics.specs.FlowBoxes.{inline_size, content_from, room}
 use Rattle.layout_semantics.specs.Horizontal.{widths}
 use Rattle.layout_semantics.specs.InlineContent.{has_line, is_floated_at}
-use Rattle.layout_semantics.specs.Lines.{lines_in}
 use Rattle.layout_semantics.specs.Order.{IsOnPage}
 use Rattle.layout_semantics.specs.Rectangles.{Frame, content_top}
 use Rattle.layout_semantics.specs.Verticals.{verticals}
 use Rattle.layout_laws.proofs.Levels.{All-implied}
-use Rattle.lay_margin.specs.declared.runs.Run.{Run}
 use Rattle.lay_margin.specs.Fitting.{BoxFits}
-use Rattle.lay_steps.specs.Flow.{Context, Met, Step, fresh, Standing, at_top, below, standing_in, opened, frame_of, laid_context, laid_block, reached_of, lines_of, content_of}
+use Rattle.lay_steps.specs.Flow.{Context, Step, fresh, Standing, at_top, below, standing_in, opened, frame_of, laid_context, laid_block, reached_of, lines_of, content_of}
 use Rattle.lay_steps.proofs.Sound.{IsFlowKid, IsSound}
-use Rattle.page_limits.specs.Bounds.{Bounds, AreInside, grown, all_around, IsBandIn, IsLevelIn}
+use Rattle.page_limits.specs.Bounds.{Bounds, AreInside, grown, all_around, IsBandIn}
 use Rattle.page_limits.specs.Boxes.{IsIndependentIn, IsBoxSmall, IsWhole}
 use Rattle.page_limits.specs.Inline.{AreLinesIn, IsContentSmall, IsEntryIn}
 use Rattle.page_limits.specs.Rises.{content_rise}
@@ -32,11 +29,9 @@ use Rattle.page_limits.proofs.ContentWithin.{line_context, lines-in-bounds}
 use Rattle.page_limits.proofs.FloatsMet.{band-wider, floats-wider}
 use Rattle.page_limits.proofs.FlowWithin as within
 use Rattle.page_limits.proofs.Levels.{aside-wider, level-wider}
-use Rattle.page_limits.proofs.LinesWithin.{levels-wider, lines-within}
-use Rattle.page_limits.proofs.Rising.{rise-of-lines}
-use Rattle.page_limits.proofs.WaysWithin as ways
+use Rattle.page_limits.proofs.LinesWithin.{levels-wider}
 use Rattle.lay_flow.specs.Fits.{IsEntryLow, IsReplacedFit, IsShapeFit}
-use Rattle.lay_flow.specs.Low.{reach, IsBandLow, IsContextLow, IsLevelLow, IsRunLow, IsClearedLow, IsFrameLow, IsStandingLow}
+use Rattle.lay_flow.specs.Low.{reach, IsBandLow, IsContextLow, IsFrameLow, IsStandingLow}
 use Rattle.lay_flow.proofs.PageFits.{IsBoxFit}
 use Rattle.lay_flow.specs.WalkFits.{Place, before_content, before_children, before_child, before_flow, when_reached, when_starting, when_going_on, ChildFits, ContentFits, FlowFits, GoOnFits, InLinesFit, LaidFits, PlaceFits, StartFits, WalkFits, inner_end}
 use Rattle.lay_flow.proofs.ReachesFit.{ahead-of-reached-low, reach-fits}

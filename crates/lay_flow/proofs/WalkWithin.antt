@@ -12,7 +12,6 @@ use Rattle.layout_semantics.specs.Order.{IsOnPage}
 use Rattle.layout_semantics.specs.Rectangles.{Frame, content_top}
 use Rattle.layout_laws.proofs.Levels.{IsFrom, All-implied}
 use Rattle.layout_laws.proofs.LeadLevels.{children-from}
-use Rattle.lay_margin.specs.Runs.{no_run}
 use Rattle.lay_steps.specs.Flow.{Context, Standing, Step, fresh, standing_in, opened, frame_of, content_of, child_of}
 use Rattle.lay_steps.proofs.StepCases.{stands-open, stands-parted}
 use Rattle.lay_steps.proofs.Sound.{IsFlowKid, IsSound, flow-sound}

@@ -3,6 +3,7 @@ pub mod Low
 pub mod Fits
 pub mod WayFits
 pub mod Tries
+pub mod Levels
 pub mod Ways
 pub mod WalkFits
 pub mod IndependentFits

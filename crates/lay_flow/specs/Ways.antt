@@ -1,5 +1,5 @@
 -- A way forward at a reading.
-use Rattle.std.specs.Prelude.{◌≡◌, ℕ, ℤ, IfSome, cond, List, Option, option_map}
+use Rattle.std.specs.Prelude.{◌≡◌, ℕ, ℤ, IfSome, cond, List, length, Option, Some, option_map}
 use Rattle.viz_base.specs.declared.layouts.Band.{Band}
 use Rattle.viz_base.specs.declared.layouts.Waiting.{Waiting}
 use Rattle.viz_base.specs.declared.trees.BoxTree.{BoxTree}
@@ -19,6 +19,7 @@ use Rattle.lay_steps.specs.Flow.{size_in}
 use Rattle.lay_steps.specs.Forward.{Found, way}
 use Rattle.lay_flow.specs.Readings.{apart_at, base_at}
 use Rattle.lay_flow.specs.WayFits.{IsDecisionLow, WaitingFits, WayFits, KidsFit, KidFits}
+use Rattle.lay_flow.specs.Levels.{IsLevelFor}
 use Rattle.lay_flow.specs.Tries.{IsTrialOf}
 use Rattle.lay_flow.specs.declared.parts.Going.{Going}
 use Rattle.lay_flow.specs.declared.parts.Tries.{Tries}
@@ -79,6 +80,15 @@ module _ {N : Type 0} (at : N → Reading → ℤ) (x : Way N) (e : Reading) whe
   abbrev pub AreTried : List (Waiting ℤ) → Option (Tries N) → Type 0
   AreTried ws tries =
       IfSome tries (λ t. IsTrialOf (ground_at at x e) (at t.y e) t.count ws (trial_at at t.trial e))
+
+  -- all of these were tried
+  abbrev pub AreAllTried : List (Waiting ℤ) → Tries N → Type 0
+  AreAllTried ws t = (t.count ≡ length ws) × AreTried ws (Some t)
+
+  -- and stand level where they were, as they do at y
+  pub record TellsOf (run : Margins ℤ) (ws : List (Waiting ℤ)) (t : Tries N) (y : ℤ) : Type 0 where
+    pub tried : AreAllTried ws t
+    pub level : IsLevelFor (ground_at at x e) run (trial_at at t.trial e).level (at t.y e) y
 
 abbrev pub trials_at : {N : Type 0} → (N → Reading → ℤ) → Option (Trial N) → Reading → Option Tried
 trials_at at t e = option_map (λ t. trial_at at t e) t

@@ -1,11 +1,10 @@
 //! The margins that adjoin the top of a box that comes next, up to the first box that is cleared (CSS 2.1, 8.3.1,
 //! 9.5.2).
-ghost use Rattle.std.specs.Prelude.{◌≡◌, ◌<◌, ◌++◌, ◌∷◌, [], ⊤, ℕ, ℤ, length, slice_index_or, int_lt, int_le};
-ghost use Rattle.std.specs.Prelude.{◌&&◌, false, IfSome, Some};
-ghost use Rattle.std.specs.Option.{option_map_or};
+ghost use Rattle.std.specs.Prelude.{◌≡◌, ◌<◌, ◌≤◌, ◌++◌, ◌∷◌, [], ⊤, ℕ, ℤ, length, slice_index_or, int_le};
+ghost use Rattle.std.specs.Prelude.{◌&&◌, IfSome, IfOk, IfErr, IsTrue, Some, drop};
 ghost use Rattle.viz_calc.specs.World.{Reading};
 ghost use Rattle.viz_calc.specs.State.{AllSmall, WhereOpen};
-ghost use Rattle.viz_calc.specs.Run.{Goes, Blames, Lays, LaysButMem};
+ghost use Rattle.viz_calc.specs.Run.{Goes, Blames, BlamesButMem, Lays, LaysButMem};
 ghost use Rattle.viz_calc.specs.Renderings.{band_at};
 ghost use Rattle.layout_semantics.specs.Floats.{floating, lowest_bottom};
 ghost use Rattle.layout_semantics.specs.FlowBoxes.{clear_of, flow_children};
@@ -20,15 +19,17 @@ ghost use Rattle.lay_steps.specs.Forward.{hypothetical_edge as hypothetical_of};
 ghost use Rattle.lay_steps.specs.Forward.{is_to_clear as to_clear_of, clear_edge as clear_edge_of};
 ghost use Rattle.lay_steps.specs.Forward.{decided as decided_of};
 ghost use Rattle.lay_steps.specs.Flow.{size_in};
+ghost use Rattle.lay_flow.specs.Levels.{IsLevelFor, clears as clears_of, clears_level as clears_level_of};
 ghost use Rattle.lay_flow.specs.Low.{IsBaseLow, IsRunLow};
 ghost use Rattle.lay_flow.specs.Readings.{apart_at, base_at, found_at};
 ghost use Rattle.lay_flow.specs.WayFits.{IsLeadLow, WaitingFits, IsGroundLow, IsGoingLow};
 ghost use Rattle.lay_flow.specs.Tries.{TrialFits, first_trial, next_trial, other_trials, trial_of, floats_with};
 ghost use Rattle.lay_flow.specs.Ways.{ground_at, way_at, inner_at, kids_at_reading, kid_at, closed_end};
 ghost use Rattle.lay_flow.specs.Ways.{DecisionFitsAt, WayFitsAt, KidsFitAt, KidFitsAt, WaitingFitsAt};
-ghost use Rattle.lay_flow.specs.Ways.{AreTried, trials_at, Keeps, GoesForward};
+ghost use Rattle.lay_flow.specs.Ways.{AreTried, AreAllTried, TellsOf, trials_at, Keeps, GoesForward};
 
 use crate::floating::size_of;
+use crate::level::{is_above, is_within, stays_free, up_to_named};
 use crate::parts::{Base, Cleared, End, Going, Page, Tries};
 use lay_float::PlacedFloat;
 use lay_float::engine::bottom;
@@ -287,14 +288,211 @@ fn lowest<S: Steady>(
     }
 }
 
-/// Whether a border edge is above such a bottom.
-fn is_above<S: Steady>(calc: &mut S, y: &S::Num, bottom: &Option<S::Num>) -> bool
-    ensures { Lays S.run calc.old calc.new (λ e. result)
-        (λ e. option_map_or (int_lt (S.at y.now e)) (option_at S.at bottom.now e) false) (λ e. ⊤) }
+/// Whether floats that were tried all stand level at the edge at which they were, and so do at y.
+fn is_level_for<S: Steady>(
+    calc: &mut S,
+    way: &Way<'_, S::Num>,
+    run: &Run<S::Num>,
+    tries: &Tries<S::Num>,
+    y: &S::Num,
+) -> bool
+    ensures goes { Goes (S.run calc.old) (S.run calc.new) }
+    ensures value { WhereOpen (S.run calc.new).is_open (λ e. IsTrue result → IsLevelFor (ground_at S.at way.now e)
+        (run_at S.at run.now e) (S.at tries.now.trial.level e) (S.at tries.now.y e) (S.at y.now e)) }
+    ensures cause { Blames (S.run calc.old) (S.run calc.new) (WhereOpen (S.run calc.old).is_open
+        (λ e. IsBaseLow (base_at S.at way.now.base.now e) × IsRunLow (run_at S.at run.now e))) }
 {
-    match bottom {
-        Some(bottom) => !calc.le(bottom, y),
-        None => false,
+    // What is tried at an edge fits where that lies within the reach of the margins so far.
+    calc.le(&tries.trial.level, &tries.y)
+        && stays_free(calc, way.floats, way.least, &tries.y, y)
+        && is_within(calc, way.base, run, &tries.y)
+}
+
+/// The floats that wait, tried where the first ones were.
+fn try_rest<S: Steady>(
+    alloc: Global,
+    calc: &mut S,
+    way: &Way<'_, S::Num>,
+    waiting: &[Waiting<S::Num>],
+    tries: Tries<S::Num>,
+) -> Tries<S::Num>
+    requires { WhereOpen (S.run calc.old).is_open
+        (λ e. AreTried S.at way.now e (waiting_all S.at waiting.now e) (Some tries)) }
+    ensures goes { Goes (S.run calc.old) (S.run calc.new) }
+    ensures value { WhereOpen (S.run calc.new).is_open
+        (λ e. AreAllTried S.at way.now e (waiting_all S.at waiting.now e) result) }
+    ensures edge { result.y ≡ tries.y }
+    ensures cause { BlamesButMem (S.run calc.old) (S.run calc.new) (WhereOpen (S.run calc.old).is_open
+        (λ e. WaitingFitsAt S.at way.now e (S.at tries.y e) (waiting_all S.at waiting.now e))) }
+{
+    let Tries { y, count, trial } = tries;
+    match waiting.split_at_checked(count) {
+        Some((_, others)) => Tries {
+            y,
+            count: waiting.len(),
+            trial: try_others(alloc, calc, way, others, trial),
+        },
+        None => Tries { y, count, trial },
+    }
+}
+
+/// A box with `clear` that is reached.
+#[derive(Drop)]
+pub struct Asked<'a, N> {
+    pub b: u32,
+    /// The run of margins before it.
+    pub run: &'a Run<N>,
+    /// The floats that wait and matter to it.
+    pub waiting: &'a [Waiting<N>],
+}
+
+/// All floats that wait, tried at an edge at which they stand level as they do at y; where they don't, or where few
+/// were tried before, what was tried.
+fn try_level<S: Steady>(
+    alloc: Global,
+    calc: &mut S,
+    way: &Way<'_, S::Num>,
+    asked: &Asked<'_, S::Num>,
+    y: &S::Num,
+    tries: Option<Tries<S::Num>>,
+) -> Result<Tries<S::Num>, Option<Tries<S::Num>>>
+    requires { WhereOpen (S.run calc.old).is_open
+        (λ e. AreTried S.at way.now e (waiting_all S.at asked.now.waiting.now e) tries) }
+    ensures goes { Goes (S.run calc.old) (S.run calc.new) }
+    ensures level { IfOk result (λ t. WhereOpen (S.run calc.new).is_open (λ e. TellsOf S.at way.now e
+        (run_at S.at asked.now.run.now e) (waiting_all S.at asked.now.waiting.now e) t (S.at y.now e))) }
+    ensures kept { IfErr result (λ t. WhereOpen (S.run calc.new).is_open
+        (λ e. AreTried S.at way.now e (waiting_all S.at asked.now.waiting.now e) t)) }
+    ensures cause { BlamesButMem (S.run calc.old) (S.run calc.new) (WhereOpen (S.run calc.old).is_open
+        (λ e. IsGroundLow (base_at S.at way.now.base.now e) (floats_in S.at way.now.floats.now e)
+        (option_at S.at way.now.least.now e)
+        × IsGoingLow (size_in (apart_at S.at way.now.page.now.apart.now e))
+        (run_at S.at asked.now.run.now e) (waiting_all S.at asked.now.waiting.now e))) }
+{
+    let Some(tries) = tries else {
+        return Err(None);
+    };
+    if tries.count <= MANY || !is_level_for(calc, way, asked.run, &tries, y) {
+        return Err(Some(tries));
+    }
+    let tries = try_rest(alloc, calc, way, asked.waiting, tries);
+    if calc.le(&tries.trial.level, &tries.y) {
+        Ok(tries)
+    } else {
+        Err(Some(tries))
+    }
+}
+
+/// The floats behind the first ones.
+fn behind<N>(floats: &[PlacedFloat<N>], count: usize) -> &[PlacedFloat<N>]
+    ensures { result.now ≡ drop count floats.now }
+{
+    match floats.split_at_checked(count) {
+        Some((_, rest)) => rest,
+        None => &[],
+    }
+}
+
+/// Whether a box is cleared whose edge would be y, where what was tried tells of y.
+fn clears_level<S: Steady>(
+    calc: &mut S,
+    way: &Way<'_, S::Num>,
+    b: u32,
+    y: &S::Num,
+    tries: &Tries<S::Num>,
+) -> bool
+    ensures { Lays S.run calc.old calc.new (λ e. result)
+        (λ e. clears_level_of (clear_of way.now.page.now.tree.now b) (floats_in S.at way.now.floats.now e)
+        (trial_at S.at tries.now.trial e).all (S.at tries.now.y e) (S.at y.now e))
+        (λ e. AreHalf (floats_in S.at way.now.floats.now e) []
+        × AreHalf (trial_at S.at tries.now.trial e).all []) }
+{
+    let clear = clear_in_flow(way.page.tree, b);
+    let before = bottom(calc, way.floats, clear);
+    if is_above(calc, y, &before) {
+        return true;
+    }
+    let tried = behind(tries.trial.all.placed.as_slice(), way.floats.len());
+    let lowest = bottom(calc, tried, clear);
+    is_above(calc, &tries.y, &lowest)
+}
+
+/// Whether a box is cleared, with the floats that were tried to tell it.
+#[derive(Drop)]
+pub struct Decision<N> {
+    pub cleared: bool,
+    pub tries: Option<Tries<N>>,
+}
+
+/// Whether a box is cleared whose edge would be y, by a trial of these floats there.
+fn told_at<S: Steady>(
+    alloc: Global,
+    calc: &mut S,
+    way: &Way<'_, S::Num>,
+    asked: &Asked<'_, S::Num>,
+    y: S::Num,
+    before: Option<Tries<S::Num>>,
+) -> Decision<S::Num>
+    requires { WhereOpen (S.run calc.old).is_open
+        (λ e. AreTried S.at way.now e (waiting_all S.at asked.now.waiting.now e) before) }
+    ensures goes { Goes (S.run calc.old) (S.run calc.new) }
+    ensures value { WhereOpen (S.run calc.new).is_open (λ e. result.cleared
+        ≡ clears_of (ground_at S.at way.now e) asked.now.b (waiting_all S.at asked.now.waiting.now e) (S.at y e)) }
+    ensures kept { WhereOpen (S.run calc.new).is_open
+        (λ e. AreTried S.at way.now e (waiting_all S.at asked.now.waiting.now e) result.tries) }
+    ensures cause { BlamesButMem (S.run calc.old) (S.run calc.new) (WhereOpen (S.run calc.old).is_open
+        (λ e. WaitingFitsAt S.at way.now e (S.at y e) (waiting_all S.at asked.now.waiting.now e))) }
+{
+    let trial = try_on(alloc, calc, way, asked.waiting, &y, before);
+    let bottom = lowest(calc, way, asked.b, &trial);
+    let cleared = is_above(calc, &y, &bottom);
+    let tries = kept(y, asked.waiting.len(), trial);
+    Decision { cleared, tries }
+}
+
+/// Whether a box is cleared whose edge would be y, by what was tried at another edge where that tells it, else by a
+/// trial at y.
+fn told<S: Steady>(
+    alloc: Global,
+    calc: &mut S,
+    way: &Way<'_, S::Num>,
+    asked: &Asked<'_, S::Num>,
+    y: S::Num,
+    before: Option<Tries<S::Num>>,
+) -> Decision<S::Num>
+    requires { WhereOpen (S.run calc.old).is_open
+        (λ e. AreTried S.at way.now e (waiting_all S.at asked.now.waiting.now e) before) }
+    ensures goes { Goes (S.run calc.old) (S.run calc.new) }
+    ensures value { WhereOpen (S.run calc.new).is_open (λ e. result.cleared
+        ≡ clears_of (ground_at S.at way.now e) asked.now.b (waiting_all S.at asked.now.waiting.now e) (S.at y e)) }
+    ensures kept { WhereOpen (S.run calc.new).is_open
+        (λ e. AreTried S.at way.now e (waiting_all S.at asked.now.waiting.now e) result.tries) }
+    ensures cause { BlamesButMem (S.run calc.old) (S.run calc.new) (WhereOpen (S.run calc.old).is_open
+        (λ e. WaitingFitsAt S.at way.now e (S.at y e) (waiting_all S.at asked.now.waiting.now e)
+        × IsGroundLow (base_at S.at way.now.base.now e) (floats_in S.at way.now.floats.now e)
+        (option_at S.at way.now.least.now e)
+        × IsGoingLow (size_in (apart_at S.at way.now.page.now.apart.now e))
+        (run_at S.at asked.now.run.now e) (waiting_all S.at asked.now.waiting.now e))) }
+{
+    match try_level(alloc, calc, way, asked, &y, before) {
+        Ok(tries) => {
+            let cleared = clears_level(calc, way, asked.b, &y, &tries);
+            Decision {
+                cleared,
+                tries: Some(tries),
+            }
+        }
+        Err(before) => told_at(alloc, calc, way, asked, y, before),
+    }
+}
+
+/// How many floats are tried at least: as many as were before, and all where they are few.
+fn count_before<N>(tries: &Option<Tries<N>>) -> usize
+    ensures { IfSome tries.now (λ t. t.count ≤ result) }
+{
+    match tries {
+        Some(tries) => tries.count.max(MANY),
+        None => MANY,
     }
 }
 
@@ -319,12 +517,22 @@ fn is_to_clear<S: Steady>(
 {
     let y = hypothetical_edge(alloc, calc, way, cb, b, &going.run);
     let before = going.tries.take();
-    let waiting = going.waiting.as_slice();
-    let trial = try_on(alloc, calc, way, waiting, &y, before);
-    let bottom = lowest(calc, way, b, &trial);
-    let above = is_above(calc, &y, &bottom);
-    going.tries = kept(y, waiting.len(), trial);
-    above
+    let clear = clear_in_flow(way.page.tree, b);
+    // What waits behind the last float that the box names doesn't tell where that one stands.
+    let part = up_to_named(
+        way.page.tree,
+        clear,
+        going.waiting.as_slice(),
+        count_before(&before),
+    );
+    let asked = Asked {
+        b,
+        run: &going.run,
+        waiting: part,
+    };
+    let Decision { cleared, tries } = told(alloc, calc, way, &asked, y, before);
+    going.tries = tries;
+    cleared
 }
 
 /// The border edge of a cleared box: the lowest bottom that it is to clear.

@@ -7,6 +7,7 @@ pub mod frames;
 mod front;
 pub mod heights;
 mod independent;
+mod level;
 pub mod lines;
 pub mod page;
 pub mod parts;
