@@ -1,5 +1,5 @@
 //! What a finding has to pass, whoever made it.
-ghost use Rattle.std.specs.Prelude.{◌≡◌, ◌↔◌, ◌+◌, ◌-◌, ◌≤◌, ◌<◌, ◌^◌, ℕ, List, length, IsTrue, IfOk, IfSome};
+ghost use Rattle.std.specs.Prelude.{◌≡◌, ◌↔◌, ◌+◌, ◌-◌, ◌≤◌, ◌<◌, ◌^◌, ℕ, List, length, IsTrue, IfOk, IfSome, MatchOption};
 ghost use Rattle.viz_base.specs.Worlds.{world_count};
 ghost use Rattle.cert_text.specs.declared.certificate.CertNode.TheVariants.{Grid};
 ghost use Rattle.cert_text.specs.Texts.{CertText};
@@ -54,10 +54,10 @@ fn is_of_its_form(cert: &Cert) -> bool
     (cert.form == 2) == has_lemma(&cert.root)
 }
 
-/// The text of a certificate that has one, where it has at most so many bytes.
+/// The text of a certificate that has one, where it has at most so many bytes. The only fault is want of memory.
 fn short_text(alloc: Global, cert: &Cert, most: u64) -> Result<Option<Vec<u8>>, Mem>
     requires { (text : List ℕ) × CertText cert.now text }
-    ensures { IfOk result (λ found. IfSome found
+    ensures { IfOk result (λ found. MatchOption found ((text : List ℕ) → CertText cert.now text → most < length text)
         (λ text. CertText cert.now text.items × (length text.items ≤ most))) }
 {
     let text = write_cert(alloc, cert)?;

@@ -28,6 +28,10 @@ fitted_past z h = grind (arith, nat_tests)
 pub world-stays : (old new : World) → Grows (plain_state old) (plain_state new) → new ≡ old
 world-stays old new g = let o = g.closes (plain_reading new) (open_reading new) in grind (arith, nat_tests)
 
+-- so its own reading is still open
+pub still_open : (old new : World) → Grows (plain_state old) (plain_state new) → IsTrue ((plain_state new).is_open (plain_reading old))
+still_open old new g = rw (world-stays old new g) (open_reading old)
+
 -- the world that it keeps is open
 pub kept_open : (w v : World) → IsTrue ((plain_state w).kept.worlds v) → IsOpenWorld (plain_state w) v
 kept_open w v t = record { reading = plain_reading v; world = refl; is_open = t }

@@ -1,10 +1,10 @@
-use Rattle.std.proofs.Common.{◌≡◌, ℤ, IsTrue, ap, ◌∙◌}
+use Rattle.std.proofs.Common.{◌≡◌, ℤ, ap, ◌∙◌}
 use Rattle.viz_base.specs.declared.renderings.Rendering.{Rendering}
 use Rattle.viz_calc.specs.Plain.{plain_state, plain_reading}
 use Rattle.logic_semantics.specs.Scenes.{scene_of}
 use Rattle.logic_semantics.specs.Truth.{truth}
 use Rattle.vis_truth.specs.Scenes.{IsNarrow, IsTame, scene_at}
-use Rattle.viz_calc.proofs.PlainLemmas.{open_reading, world-stays}
+use Rattle.viz_calc.proofs.PlainLemmas.{still_open}
 use Rattle.vis_truth.proofs.PlainScenes.{never-halts, plain-tame, rendering-same}
 use Rattle.cert_check.proofs.Bounded.{narrow_world, rendering_bounded}
 use Rattle.cert_check.proofs.worlds.laid_out_at.Goals as goal
@@ -23,8 +23,7 @@ pub returns : goal.returns
 returns c =
     let job = c.args.job.now in
     let e = plain_reading c.new-calc.result.world in
-    let stays = world-stays c.new-calc.result.world c.truth.new.calc.world (c.in-Ok.ensures).grows in
-    let is_open : IsTrue ((plain_state c.truth.new.calc.world).is_open e) = rw stays (open_reading c.new-calc.result.world) in
+    let is_open = still_open c.new-calc.result.world c.truth.new.calc.world (c.in-Ok.ensures).grows in
     let value : c.in-Ok.yes ≡ truth (scene_at (λ n e. n) c.in_ok-rendering.rendering e) c.args.f.now = (c.in-Ok.ensures).value e is_open in
     let as_is : scene_at (λ n e. n) c.in_ok-rendering.rendering e ≡ scene_of c.in_ok-rendering.rendering c.new-calc.result.world
     = ap (λ (r : Rendering ℤ). scene_of r c.new-calc.result.world) (rendering-same e c.in_ok-rendering.rendering) in
