@@ -11,14 +11,14 @@ use viz_base::{Formula, Job};
 use viz_calc::{Calc, Halt};
 
 /// Whether a formula is true of a page's rendering, laid out over a calc.
-fn laid_out<C: Calc>(alloc: Global, calc: &mut C, job: &Job, f: &Formula) -> Result<bool, Halt>
+fn laid_out<C: Calc>(calc: &mut C, job: &Job, f: &Formula) -> Result<bool, Halt>
     ensures grows { Grows (C.state calc.old) (C.state calc.new) }
     ensures value { IfOk result (λ yes. WhereOpen (C.state calc.new).is_open
         (λ e. yes ≡ holds_at (rendering_of job.now) f.now e.world)) }
     ensures told { IfErr result (λ halt. IsTrue
         (is_told C.counts (C.state calc.new) (Some halt))) }
 {
-    match render(alloc, calc, &job.tree) {
+    match render(calc, &job.tree) {
         Ok(rendering) => truth(calc, f, &rendering),
         Err(halt) => Err(halt),
     }
@@ -34,7 +34,7 @@ pub fn truth_over<C: Calc>(alloc: Global, calc: &mut C, job: &Job) -> Result<boo
         (is_told C.counts (C.state calc.new) (Some halt))) }
 {
     match conclusion(alloc, calc, &job.formula) {
-        Ok(Some(left)) => laid_out(alloc, calc, job, left),
+        Ok(Some(left)) => laid_out(calc, job, left),
         Ok(None) => Ok(true),
         Err(halt) => Err(halt),
     }

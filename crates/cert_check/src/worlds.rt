@@ -15,12 +15,12 @@ use viz_base::{Formula, Job, Mem, Rect, World};
 use viz_calc::{Halt, Plain};
 
 /// Whether a formula with small terms is true of a page's rendering at a world of the job's range.
-fn laid_out_at(alloc: Global, job: &Job, f: &Formula, world: World) -> Result<bool, Mem>
+fn laid_out_at(job: &Job, f: &Formula, world: World) -> Result<bool, Mem>
     requires in_range { IsInRange job.now.range world }
     requires small { IsTrue (has_small_terms f.now) }
     ensures { IfOk result (λ yes. yes ≡ holds_there (rendering_of job.now) f.now world) }
 {
-    let rendering = render_at(alloc, world, &job.tree)?;
+    let rendering = render_at(world, &job.tree)?;
     let mut calc = Plain::new(world);
     match truth(&mut calc, f, &rendering) {
         Ok(yes) => Ok(yes),
@@ -35,7 +35,7 @@ fn exactly_at(alloc: Global, job: &Job, world: World) -> Result<bool, Mem>
 {
     let mut calc = Plain::new(world);
     match conclusion(alloc, &mut calc, &job.formula) {
-        Ok(Some(left)) => laid_out_at(alloc, job, left, world),
+        Ok(Some(left)) => laid_out_at(job, left, world),
         Ok(None) => Ok(true),
         Err(_) => unreachable!(),
     }

@@ -43,7 +43,6 @@ use lay_tree::adjoining::{clear_in_flow, collapses_through};
 use lay_tree::boxes::{children, is_floated};
 use lay_tree::contents::{floats_in, holds_inline};
 use lay_tree::styles::{clear, float_side};
-use std::alloc::Global;
 use viz_base::{Band, BoxTree, Extent, List, Waiting};
 use viz_calc::Steady;
 
@@ -78,7 +77,6 @@ fn edge<S: Steady>(calc: &mut S, base: &Base<S::Num>, run: &Run<S::Num>) -> S::N
 #[tactic(auto, unfolding(lay_steps::specs::Forward::hypothetical_edge))]
 /// The border edge of a box with `clear` if it were not cleared.
 fn hypothetical_edge<S: Steady>(
-    alloc: Global,
     calc: &mut S,
     way: &Way<'_, S::Num>,
     cb: &Band<S::Num>,
@@ -94,17 +92,8 @@ fn hypothetical_edge<S: Steady>(
 {
     // The run goes on from here whatever is decided, so the margins of this question are joined to a copy.
     let mut own = copy_run(calc, run);
-    let mut waiting = List::new(alloc);
-    lead(
-        alloc,
-        calc,
-        way.page.tree,
-        b,
-        cb,
-        Some(b),
-        &mut own,
-        &mut waiting,
-    );
+    let mut waiting = List::new(way.page.tree.boxes.allocator());
+    lead(calc, way.page.tree, b, cb, Some(b), &mut own, &mut waiting);
     edge(calc, way.base, &own)
 }
 
@@ -124,7 +113,6 @@ fn coming<'a, N>(tree: &BoxTree, float: &'a Waiting<N>, size: &'a Extent<N>) -> 
 #[tactic(auto, unfolding(lay_steps::specs::Flow::size_in))]
 /// Tries the first float that waits, where the run of margins ends at y.
 fn try_first<S: Steady>(
-    alloc: Global,
     calc: &mut S,
     way: &Way<'_, S::Num>,
     float: &Waiting<S::Num>,
@@ -138,13 +126,19 @@ fn try_first<S: Steady>(
 {
     let size = size_of(calc, way.page.apart, float.at);
     let next = coming(way.page.tree, float, &size);
-    begin(alloc, calc, way.floats, &next, way.least.as_ref(), y)
+    begin(
+        way.page.tree.boxes.allocator(),
+        calc,
+        way.floats,
+        &next,
+        way.least.as_ref(),
+        y,
+    )
 }
 
 #[tactic(auto, unfolding(lay_steps::specs::Flow::size_in))]
 /// Tries the next one.
 fn try_next<S: Steady>(
-    alloc: Global,
     calc: &mut S,
     way: &Way<'_, S::Num>,
     float: &Waiting<S::Num>,
@@ -157,12 +151,17 @@ fn try_next<S: Steady>(
 {
     let size = size_of(calc, way.page.apart, float.at);
     let next = coming(way.page.tree, float, &size);
-    go_on(alloc, calc, &next, way.least.as_ref(), before)
+    go_on(
+        way.page.tree.boxes.allocator(),
+        calc,
+        &next,
+        way.least.as_ref(),
+        before,
+    )
 }
 
 /// Tries those that follow.
 fn try_others<S: Steady>(
-    alloc: Global,
     calc: &mut S,
     way: &Way<'_, S::Num>,
     waiting: &[Waiting<S::Num>],
@@ -175,14 +174,13 @@ fn try_others<S: Steady>(
 {
     let mut trial = before;
     for float in waiting {
-        trial = try_next(alloc, calc, way, float, trial);
+        trial = try_next(calc, way, float, trial);
     }
     trial
 }
 
 /// Tries all floats that wait, where the run of margins ends at y.
 fn try_all<S: Steady>(
-    alloc: Global,
     calc: &mut S,
     way: &Way<'_, S::Num>,
     waiting: &[Waiting<S::Num>],
@@ -196,8 +194,8 @@ fn try_all<S: Steady>(
         // Without floats that wait the context's own list will do, and none is copied.
         None => None,
         Some((first, others)) => {
-            let trial = try_first(alloc, calc, way, first, y);
-            Some(try_others(alloc, calc, way, others, trial))
+            let trial = try_first(calc, way, first, y);
+            Some(try_others(calc, way, others, trial))
         }
     }
 }
@@ -239,7 +237,6 @@ fn tried_at<S: Steady>(
 /// Tries all floats that wait, where the run of margins ends at y; those that were tried there before are not tried
 /// again.
 fn try_on<S: Steady>(
-    alloc: Global,
     calc: &mut S,
     way: &Way<'_, S::Num>,
     waiting: &[Waiting<S::Num>],
@@ -253,10 +250,10 @@ fn try_on<S: Steady>(
         (λ e. WaitingFitsAt S.at way.now e (S.at y.now e) (waiting_all S.at waiting.now e)) }
 {
     let Some(tries) = tried_at(calc, tries, y) else {
-        return try_all(alloc, calc, way, waiting, y);
+        return try_all(calc, way, waiting, y);
     };
     let (_, others) = waiting.split_at_checked(tries.count)?;
-    Some(try_others(alloc, calc, way, others, tries.trial))
+    Some(try_others(calc, way, others, tries.trial))
 }
 
 /// What is kept of a trial of all floats that wait.
@@ -310,7 +307,6 @@ fn is_level_for<S: Steady>(
 
 /// The floats that wait, tried where the first ones were.
 fn try_rest<S: Steady>(
-    alloc: Global,
     calc: &mut S,
     way: &Way<'_, S::Num>,
     waiting: &[Waiting<S::Num>],
@@ -330,7 +326,7 @@ fn try_rest<S: Steady>(
         Some((_, others)) => Tries {
             y,
             count: waiting.len(),
-            trial: try_others(alloc, calc, way, others, trial),
+            trial: try_others(calc, way, others, trial),
         },
         None => Tries { y, count, trial },
     }
@@ -349,7 +345,6 @@ pub struct Asked<'a, N> {
 /// All floats that wait, tried at an edge at which they stand level as they do at y; where they don't, or where few
 /// were tried before, what was tried.
 fn try_level<S: Steady>(
-    alloc: Global,
     calc: &mut S,
     way: &Way<'_, S::Num>,
     asked: &Asked<'_, S::Num>,
@@ -375,7 +370,7 @@ fn try_level<S: Steady>(
     if tries.count <= MANY || !is_level_for(calc, way, asked.run, &tries, y) {
         return Err(Some(tries));
     }
-    let tries = try_rest(alloc, calc, way, asked.waiting, tries);
+    let tries = try_rest(calc, way, asked.waiting, tries);
     if calc.le(&tries.trial.level, &tries.y) {
         Ok(tries)
     } else {
@@ -426,7 +421,6 @@ pub struct Decision<N> {
 
 /// Whether a box is cleared whose edge would be y, by a trial of these floats there.
 fn told_at<S: Steady>(
-    alloc: Global,
     calc: &mut S,
     way: &Way<'_, S::Num>,
     asked: &Asked<'_, S::Num>,
@@ -443,7 +437,7 @@ fn told_at<S: Steady>(
     ensures cause { BlamesButMem (S.run calc.old) (S.run calc.new) (WhereOpen (S.run calc.old).is_open
         (λ e. WaitingFitsAt S.at way.now e (S.at y e) (waiting_all S.at asked.now.waiting.now e))) }
 {
-    let trial = try_on(alloc, calc, way, asked.waiting, &y, before);
+    let trial = try_on(calc, way, asked.waiting, &y, before);
     let bottom = lowest(calc, way, asked.b, &trial);
     let cleared = is_above(calc, &y, &bottom);
     let tries = kept(y, asked.waiting.len(), trial);
@@ -453,7 +447,6 @@ fn told_at<S: Steady>(
 /// Whether a box is cleared whose edge would be y, by what was tried at another edge where that tells it, else by a
 /// trial at y.
 fn told<S: Steady>(
-    alloc: Global,
     calc: &mut S,
     way: &Way<'_, S::Num>,
     asked: &Asked<'_, S::Num>,
@@ -474,7 +467,7 @@ fn told<S: Steady>(
         × IsGoingLow (size_in (apart_at S.at way.now.page.now.apart.now e))
         (run_at S.at asked.now.run.now e) (waiting_all S.at asked.now.waiting.now e))) }
 {
-    match try_level(alloc, calc, way, asked, &y, before) {
+    match try_level(calc, way, asked, &y, before) {
         Ok(tries) => {
             let cleared = clears_level(calc, way, asked.b, &y, &tries);
             Decision {
@@ -482,7 +475,7 @@ fn told<S: Steady>(
                 tries: Some(tries),
             }
         }
-        Err(before) => told_at(alloc, calc, way, asked, y, before),
+        Err(before) => told_at(calc, way, asked, y, before),
     }
 }
 
@@ -498,7 +491,6 @@ fn count_before<N>(tries: &Option<Tries<N>>) -> usize
 
 /// Whether a box is cleared that is reached with this run and these floats that wait.
 fn is_to_clear<S: Steady>(
-    alloc: Global,
     calc: &mut S,
     way: &Way<'_, S::Num>,
     cb: &Band<S::Num>,
@@ -515,7 +507,7 @@ fn is_to_clear<S: Steady>(
     ensures run { going.new.run ≡ going.old.run }
     ensures waiting { going.new.waiting ≡ going.old.waiting }
 {
-    let y = hypothetical_edge(alloc, calc, way, cb, b, &going.run);
+    let y = hypothetical_edge(calc, way, cb, b, &going.run);
     let before = going.tries.take();
     let clear = clear_in_flow(way.page.tree, b);
     // What waits behind the last float that the box names doesn't tell where that one stands.
@@ -530,14 +522,13 @@ fn is_to_clear<S: Steady>(
         run: &going.run,
         waiting: part,
     };
-    let Decision { cleared, tries } = told(alloc, calc, way, &asked, y, before);
+    let Decision { cleared, tries } = told(calc, way, &asked, y, before);
     going.tries = tries;
     cleared
 }
 
 /// The border edge of a cleared box: the lowest bottom that it is to clear.
 fn clear_edge<S: Steady>(
-    alloc: Global,
     calc: &mut S,
     way: &Way<'_, S::Num>,
     b: u32,
@@ -552,7 +543,7 @@ fn clear_edge<S: Steady>(
         (run_at S.at going.now.run e) (waiting_all S.at going.now.waiting e)) }
 {
     let y = edge(calc, way.base, &going.run);
-    let trial = try_all(alloc, calc, way, going.waiting.as_slice(), &y);
+    let trial = try_all(calc, way, going.waiting.as_slice(), &y);
     match lowest(calc, way, b, &trial) {
         Some(bottom) => bottom,
         None => y,
@@ -561,7 +552,6 @@ fn clear_edge<S: Steady>(
 
 /// The border edge of a box with `clear` that is reached, if it is cleared (CSS 2.1, 9.5.2).
 fn decided<S: Steady>(
-    alloc: Global,
     calc: &mut S,
     way: &Way<'_, S::Num>,
     cb: &Band<S::Num>,
@@ -582,8 +572,8 @@ fn decided<S: Steady>(
     if way.floats.is_empty() && going.waiting.is_empty() {
         return None;
     }
-    if is_to_clear(alloc, calc, way, cb, b, going) {
-        Some(clear_edge(alloc, calc, way, b, going))
+    if is_to_clear(calc, way, cb, b, going) {
+        Some(clear_edge(calc, way, b, going))
     } else {
         None
     }
@@ -605,7 +595,6 @@ fn wait<S: Steady>(calc: &mut S, cb: &Band<S::Num>, at: u32, waiting: &mut List<
 /// Goes forward from a box: joins the margins that adjoin its top to the run, lets the floats between them wait, and
 /// ends at the first box that is cleared.
 pub fn forward<S: Steady>(
-    alloc: Global,
     calc: &mut S,
     way: &Way<'_, S::Num>,
     cb: &Band<S::Num>,
@@ -620,13 +609,12 @@ pub fn forward<S: Steady>(
         (waiting_all S.at going.old.waiting e)) }
 {
     going.tries = None;
-    onward(alloc, calc, way, cb, b, going)
+    onward(calc, way, cb, b, going)
 }
 
 #[cycle(onward)]
 /// The same, where floats may have been tried.
 fn onward<S: Steady>(
-    alloc: Global,
     calc: &mut S,
     way: &Way<'_, S::Num>,
     cb: &Band<S::Num>,
@@ -643,17 +631,16 @@ fn onward<S: Steady>(
 {
     // Each box with `clear` is decided where it is met, on the way forward.
     if stops_at(way.page.tree, way.past, b)
-        && let Some(edge) = decided(alloc, calc, way, cb, b, going)
+        && let Some(edge) = decided(calc, way, cb, b, going)
     {
         return End::Ends(Cleared { at: b, edge });
     }
-    inner(alloc, calc, way, cb, b, going)
+    inner(calc, way, cb, b, going)
 }
 
 #[cycle(onward)]
 /// The same of a box that is not cleared.
 fn inner<S: Steady>(
-    alloc: Global,
     calc: &mut S,
     way: &Way<'_, S::Num>,
     cb: &Band<S::Num>,
@@ -673,7 +660,7 @@ fn inner<S: Steady>(
         return End::Solid;
     }
     let band = band_inside(calc, way.page.tree, cb, b);
-    let end = content(alloc, calc, way, &band, b, going);
+    let end = content(calc, way, &band, b, going);
     close(way.page.tree, b, end)
 }
 
@@ -697,7 +684,6 @@ fn close<N>(tree: &BoxTree, b: u32, end: End<N>) -> End<N>
 #[cycle(onward)]
 /// The same of what is in the flow of a box.
 fn content<S: Steady>(
-    alloc: Global,
     calc: &mut S,
     way: &Way<'_, S::Num>,
     band: &Band<S::Num>,
@@ -714,10 +700,10 @@ fn content<S: Steady>(
 {
     let tree = way.page.tree;
     if !holds_inline(tree, b) {
-        return kids(alloc, calc, way, band, b, children(tree, b), going);
+        return kids(calc, way, band, b, children(tree, b), going);
     }
-    match floats_in(alloc, tree, b) {
-        Ok(floats) => kids(alloc, calc, way, band, b, floats.as_slice(), going),
+    match floats_in(tree, b) {
+        Ok(floats) => kids(calc, way, band, b, floats.as_slice(), going),
         Err(_) => {
             calc.stop();
             End::GoesOn
@@ -729,7 +715,6 @@ fn content<S: Steady>(
 #[tactic(auto, unfolding(lay_steps::specs::Forward::kid_of))]
 /// The same of boxes behind a box, one after another.
 fn kids<S: Steady>(
-    alloc: Global,
     calc: &mut S,
     way: &Way<'_, S::Num>,
     band: &Band<S::Num>,
@@ -748,7 +733,7 @@ fn kids<S: Steady>(
         (waiting_all S.at going.old.waiting e)) }
 {
     for place in boxes {
-        let end = kid(alloc, calc, way, band, *place, going);
+        let end = kid(calc, way, band, *place, going);
         if !matches!(end, End::GoesOn) {
             return end;
         }
@@ -759,7 +744,6 @@ fn kids<S: Steady>(
 #[cycle(onward)]
 /// The same of one: a float waits, and after a box that goes on its bottom margin follows.
 fn kid<S: Steady>(
-    alloc: Global,
     calc: &mut S,
     way: &Way<'_, S::Num>,
     band: &Band<S::Num>,
@@ -779,7 +763,7 @@ fn kid<S: Steady>(
         wait(calc, band, k, &mut going.waiting);
         return End::GoesOn;
     }
-    let end = onward(alloc, calc, way, band, k, going);
+    let end = onward(calc, way, band, k, going);
     if matches!(end, End::GoesOn) {
         join_bottom(calc, way.page.tree, band, k, &mut going.run);
     }

@@ -24,19 +24,12 @@ use lay_preferred::found::nothing_found;
 use lay_tree::adjoining::joins_last_child;
 use lay_tree::placings::{Placing, placed_as};
 use lay_width::engine::{block, replaced_block, replaced_shrunk, shrunk};
-use std::alloc::Global;
 use viz_base::{Band, Placed, Spot, Widths};
 use viz_calc::Steady;
 
 #[tactic(auto, unfolding(layout_semantics::specs::Horizontal::widths))]
 /// The used widths of a box in so wide a containing block (CSS 2.1, 10.3, 10.4).
-fn widths<S: Steady>(
-    alloc: Global,
-    calc: &mut S,
-    page: &Page<'_, S::Num>,
-    b: u32,
-    room: &S::Num,
-) -> Widths<S::Num>
+fn widths<S: Steady>(calc: &mut S, page: &Page<'_, S::Num>, b: u32, room: &S::Num) -> Widths<S::Num>
     requires { b < length page.now.tree.now.boxes }
     ensures goes { Goes (S.run calc.old) (S.run calc.new) }
     ensures value { WhereOpen (S.run calc.new).is_open
@@ -51,8 +44,8 @@ fn widths<S: Steady>(
         Placing::ReplacedBlock => replaced_block(calc, page.tree, b, room),
         Placing::ReplacedShrunk => replaced_shrunk(calc, page.tree, b, room),
         Placing::Shrunk => {
-            let mut found = nothing_found(alloc, calc, page.tree);
-            let both = preferred(alloc, calc, page.tree, b, &mut found);
+            let mut found = nothing_found(calc, page.tree);
+            let both = preferred(calc, page.tree, b, &mut found);
             shrunk(calc, page.tree, b, room, &both)
         }
     }
@@ -61,7 +54,6 @@ fn widths<S: Steady>(
 #[tactic(auto, unfolding(lay_steps::specs::Flow::frame_of))]
 /// A box in flow before its height is known, its border top at `top`.
 pub fn shape<S: Steady>(
-    alloc: Global,
     calc: &mut S,
     page: &Page<'_, S::Num>,
     cb: &Band<S::Num>,
@@ -81,7 +73,7 @@ pub fn shape<S: Steady>(
         × IsShapeFit page.now.tree.now e.world b (inline_size_of (band_at S.at cb.now e)))))) }
 {
     let room = inline_size(calc, cb);
-    let x = widths(alloc, calc, page, b, &room);
+    let x = widths(calc, page, b, &room);
     let v = verticals(calc, page.tree, b, &room);
     let left = calc.add(&cb.left, &x.margin_left);
     let top = calc.copy(top);

@@ -10,7 +10,6 @@ ghost use Rattle.lay_length.specs.Limits.{IsSmallPage, IsWithinLimits};
 ghost use Rattle.page_limits.specs.Bounds.{IsPlacedIn, all_around};
 
 use crate::page;
-use std::alloc::Global;
 use viz_base::{BoxTree, Mem, Rendering, World};
 use viz_calc::{Calc, Halt, Latch, Plain};
 
@@ -19,11 +18,7 @@ use viz_calc::{Calc, Halt, Latch, Plain};
 /// Lengths are in 1/64 px. `Open` where a comparison is left open, and `Coeff` where a coefficient passes its limit: on
 /// a page within the profile's limits only where the calc counts such a fault, so never over exact numbers. No clause
 /// says when `Mem` comes.
-pub fn render<C: Calc>(
-    alloc: Global,
-    calc: &mut C,
-    tree: &BoxTree,
-) -> Result<Rendering<C::Num>, Halt>
+pub fn render<C: Calc>(calc: &mut C, tree: &BoxTree) -> Result<Rendering<C::Num>, Halt>
     ensures grows { Grows (C.state calc.old) (C.state calc.new) }
     ensures value { IfOk result (λ r. WhereOpen (C.state calc.new).is_open
         (λ e. rendering_at C.at r e ≡ page_rendering tree.now e.world)) }
@@ -33,13 +28,13 @@ pub fn render<C: Calc>(
     ensures told { IfErr result (λ halt. IsTrue (is_told C.counts (C.state calc.new) (Some halt))) }
 {
     let mut latch = Latch::new(calc);
-    let rendering = page::render(alloc, &mut latch, tree);
+    let rendering = page::render(&mut latch, tree);
     latch.finish(rendering)
 }
 
 /// The rendering of a page within the profile's limits at one world. Each edge of each rectangle is at most 2^70 units
 /// in size. Its only fault is `Mem`; no clause says when that comes.
-pub fn render_at(alloc: Global, world: World, tree: &BoxTree) -> Result<Rendering<i128>, Mem>
+pub fn render_at(world: World, tree: &BoxTree) -> Result<Rendering<i128>, Mem>
     requires small { IsSmallPage tree.now }
     requires few_characters { character_count tree.now.boxes ≤ MOST_LAID_CHARACTERS }
     requires narrow { world.w ≤ MOST_PIXELS }
@@ -49,7 +44,7 @@ pub fn render_at(alloc: Global, world: World, tree: &BoxTree) -> Result<Renderin
     ensures low { IfOk result (λ r. AllByRecursion (IsPlacedIn (all_around (2 ^ 70))) r.boxes) }
 {
     let mut calc = Plain::new(world);
-    match render(alloc, &mut calc, tree) {
+    match render(&mut calc, tree) {
         Ok(rendering) => Ok(rendering),
         Err(Halt::Mem) => Err(Mem),
         Err(Halt::Coeff | Halt::Open) => unreachable!(),

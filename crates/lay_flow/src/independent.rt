@@ -33,14 +33,12 @@ use lay_preferred::found::Found;
 use lay_tree::boxes::{is_replaced, kind, parent};
 use lay_tree::placings::{Placing, placed_as};
 use lay_width::engine::{block, replaced_block, replaced_shrunk, shrunk};
-use std::alloc::Global;
 use viz_base::{BoxTree, Extent, Kind, Placed, Spot, Widths};
 use viz_calc::Steady;
 
 #[tactic(auto, unfolding(layout_semantics::specs::Horizontal::widths))]
 /// The used widths of a box in so wide a containing block, with the preferred widths that were found before.
 fn widths<S: Steady>(
-    alloc: Global,
     calc: &mut S,
     tree: &BoxTree,
     found: &mut Found<S::Num>,
@@ -63,7 +61,7 @@ fn widths<S: Steady>(
         Placing::ReplacedShrunk => replaced_shrunk(calc, tree, b, room),
         // Only shrink-to-fit asks for preferred widths (10.3.5, 10.3.9); for the other kinds none is computed.
         Placing::Shrunk => {
-            let both = preferred(alloc, calc, tree, b, found);
+            let both = preferred(calc, tree, b, found);
             shrunk(calc, tree, b, room, &both)
         }
     }
@@ -72,7 +70,6 @@ fn widths<S: Steady>(
 #[tactic(auto, unfolding(layout_semantics::specs::FlowBoxes::room_to))]
 /// The width of the containing block of a box, up so many levels: an inline box is none (CSS 2.1, 10.1).
 pub fn room<S: Steady>(
-    alloc: Global,
     calc: &mut S,
     tree: &BoxTree,
     found: &mut Found<S::Num>,
@@ -91,12 +88,12 @@ pub fn room<S: Steady>(
     }
     match parent(tree, b) {
         Some(parent) => {
-            let around = room(alloc, calc, tree, found, levels - 1, parent);
+            let around = room(calc, tree, found, levels - 1, parent);
             // An inline box is no containing block of what is in it (10.1).
             if matches!(kind(tree, parent), Kind::Inline) {
                 return around;
             }
-            widths(alloc, calc, tree, found, parent, &around).content
+            widths(calc, tree, found, parent, &around).content
         }
         None => calc.width(),
     }
@@ -105,7 +102,6 @@ pub fn room<S: Steady>(
 #[tactic(auto, unfolding(lay_steps::specs::Flow::corner_of))]
 /// A box before its height is known, its outer box at the corner of coordinates of its own.
 fn corner_shape<S: Steady>(
-    alloc: Global,
     calc: &mut S,
     tree: &BoxTree,
     found: &mut Found<S::Num>,
@@ -122,7 +118,7 @@ fn corner_shape<S: Steady>(
         × (WhereOpen (S.run calc.old).is_open
         (λ e. IsShapeFit tree.now e.world b (S.at room.now e)))) }
 {
-    let x = widths(alloc, calc, tree, found, b, room);
+    let x = widths(calc, tree, found, b, room);
     let v = verticals(calc, tree, b, room);
     let left = calc.copy(&x.margin_left);
     let top = calc.copy(&v.margin_top);
@@ -147,7 +143,6 @@ fn outer_extent<S: Steady>(calc: &mut S, placed: &Placed<S::Num>) -> Extent<S::N
 #[tactic(auto, using(lay_frame::proofs::Slots::no_boxes), unfolding(lay_steps::specs::Flow::replaced_independent))]
 /// A replaced box by itself.
 fn replaced_independent<S: Steady>(
-    alloc: Global,
     calc: &mut S,
     page: &Page<'_, S::Num>,
     b: u32,
@@ -161,7 +156,7 @@ fn replaced_independent<S: Steady>(
 {
     let placed = replaced_box(calc, page, b, room, shape);
     let size = outer_extent(calc, &placed);
-    let mut boxes = Vec::new(alloc);
+    let mut boxes = Vec::new(page.tree.boxes.allocator());
     append(calc, &mut boxes, placed);
     Independent {
         size,
@@ -173,7 +168,6 @@ fn replaced_independent<S: Steady>(
 #[tactic(auto, using(crate::proofs::IndependentBoxes::kept), unfolding(lay_steps::specs::Flow::context_independent))]
 /// A box that starts a context by itself, with all in it.
 fn context_independent<S: Steady>(
-    alloc: Global,
     calc: &mut S,
     page: &Page<'_, S::Num>,
     b: u32,
@@ -190,6 +184,7 @@ fn context_independent<S: Steady>(
         (λ e. RootFits page.now.tree.now e.world (apart_at S.at page.now.apart.now e) b
         (frame_at S.at shape.now e))) }
 {
+    let alloc = page.tree.boxes.allocator();
     let left = zero(calc);
     let band = content_between(calc, &left, &shape.x);
     let top = content_top(calc, shape);
@@ -197,7 +192,7 @@ fn context_independent<S: Steady>(
     let mut boxes = Vec::new(alloc);
     // A box stands before its content in the output, and its height is known behind it: its place is kept.
     let place = keep(calc, page.tree, b, shape, &mut boxes);
-    content(alloc, calc, page, &band, &top, &mut context, b, &mut boxes);
+    content(calc, page, &band, &top, &mut context, b, &mut boxes);
     let placed = context_box(calc, page, b, shape, &context);
     let size = outer_extent(calc, &placed);
     put::<S>(&mut boxes, place, placed);
@@ -211,7 +206,6 @@ fn context_independent<S: Steady>(
 #[tactic(auto, unfolding(lay_steps::specs::Flow::independent))]
 /// Lays out a box by itself, in so wide a containing block.
 pub fn independent<S: Steady>(
-    alloc: Global,
     calc: &mut S,
     page: &Page<'_, S::Num>,
     found: &mut Found<S::Num>,
@@ -230,10 +224,10 @@ pub fn independent<S: Steady>(
         (λ e. IndependentFits page.now.tree.now e.world (apart_at S.at page.now.apart.now e) b
         (S.at room.now e))) }
 {
-    let shape = corner_shape(alloc, calc, page.tree, found, b, room);
+    let shape = corner_shape(calc, page.tree, found, b, room);
     if is_replaced(page.tree, b) {
-        replaced_independent(alloc, calc, page, b, room, &shape)
+        replaced_independent(calc, page, b, room, &shape)
     } else {
-        context_independent(alloc, calc, page, b, &shape)
+        context_independent(calc, page, b, &shape)
     }
 }

@@ -53,12 +53,12 @@ fn inner_boxes_of(alloc: Global, items: &[Item]) -> Result<Vec<u32>, AllocError>
 }
 
 /// The floats and atomic boxes in the inline content of a box.
-pub fn inner_boxes(alloc: Global, tree: &BoxTree, b: u32) -> Result<Vec<u32>, AllocError>
+pub fn inner_boxes(tree: &BoxTree, b: u32) -> Result<Vec<u32>, AllocError>
     requires { b < length tree.now.boxes }
     ensures { IfOk result (λ boxes. boxes.items ≡ inner_of_box tree.now b) }
 {
-    let items = content(alloc, tree, b)?;
-    inner_boxes_of(alloc, items.as_slice())
+    let items = content(tree, b)?;
+    inner_boxes_of(tree.boxes.allocator(), items.as_slice())
 }
 
 #[tactic(auto, unfolding(lay_steps::specs::Flow::inner_size, crate::specs::Readings::apart_at))]
@@ -139,7 +139,6 @@ fn room_for(boxes: &[u32], all: usize) -> usize
 
 /// The floats and atomic boxes in a container's lines, and a table for them with nothing in it.
 fn empty_table<N: Drop>(
-    alloc: Global,
     tree: &BoxTree,
     b: u32,
 ) -> Result<(Vec<u32>, Vec<Option<Inner<N>>>), AllocError>
@@ -148,15 +147,14 @@ fn empty_table<N: Drop>(
     ensures places { IfOk result (λ found. found.1.items
         ≡ replicate (room_of (length tree.now.boxes) (inner_of_box tree.now b)) None) }
 {
-    let boxes = inner_boxes(alloc, tree, b)?;
+    let boxes = inner_boxes(tree, b)?;
     let room = room_for(boxes.as_slice(), tree.boxes.len());
-    let places = places(alloc, room)?;
+    let places = places(tree.boxes.allocator(), room)?;
     Ok((boxes, places))
 }
 
 /// What the floats and atomic boxes in a container's lines take, each at the place of its box.
 fn inner_table<S: Steady>(
-    alloc: Global,
     calc: &mut S,
     page: &Page<'_, S::Num>,
     b: u32,
@@ -166,14 +164,14 @@ fn inner_table<S: Steady>(
         (λ e. table_of page.now.tree.now e.world (apart_at S.at page.now.apart.now e) b)
         (λ e. AreApartLow (apart_at S.at page.now.apart.now e)) }
 {
-    match empty_table(alloc, page.tree, b) {
+    match empty_table(page.tree, b) {
         Ok((boxes, mut table)) => {
             fill(calc, page, boxes.as_slice(), &mut table);
             table
         }
         Err(_) => {
             calc.stop();
-            Vec::new(alloc)
+            Vec::new(page.tree.boxes.allocator())
         }
     }
 }
@@ -269,7 +267,6 @@ fn least_top<S: Steady>(calc: &mut S, least: &Option<S::Num>, top: &S::Num) -> S
 
 /// The lines of a block container, from `top` on; the context has then no floats.
 fn lines_in<S: Steady>(
-    alloc: Global,
     calc: &mut S,
     page: &Page<'_, S::Num>,
     b: u32,
@@ -289,7 +286,7 @@ fn lines_in<S: Steady>(
         (λ e. InLinesFit page.now.tree.now e.world (apart_at S.at page.now.apart.now e) b
         (band_at S.at cb.now e) (S.at top.now e) (context_at S.at context.old e))) }
 {
-    let table = inner_table(alloc, calc, page, b);
+    let table = inner_table(calc, page, b);
     let container = Container {
         tree: page.tree,
         at: b,
@@ -298,13 +295,15 @@ fn lines_in<S: Steady>(
     };
     let least = least_top(calc, &context.least, top);
     // Lines own the list while they place into it, and give it back.
-    let floats = std::mem::replace(&mut context.floats, Floats::new(alloc));
-    lines(alloc, calc, &container, top, &least, floats)
+    let floats = std::mem::replace(
+        &mut context.floats,
+        Floats::new(page.tree.boxes.allocator()),
+    );
+    lines(calc, &container, top, &least, floats)
 }
 
 /// Lays out the lines of a block container.
 pub fn in_lines<S: Steady>(
-    alloc: Global,
     calc: &mut S,
     page: &Page<'_, S::Num>,
     b: u32,
@@ -332,7 +331,7 @@ pub fn in_lines<S: Steady>(
     ensures agrees { Agree S.at (S.run calc.new).is_open context.new.floats }
 {
     let ended = context.floats.ended;
-    let Laid { lines, floats } = lines_in(alloc, calc, page, b, cb, top, context);
+    let Laid { lines, floats } = lines_in(calc, page, b, cb, top, context);
     let standing = below(calc, &lines.bottom);
     let least = raised_by(calc, context.least.take(), lines.entries.as_slice());
     *context = Context {

@@ -23,15 +23,15 @@ use lay_preferred::found::{Found, nothing_found};
 use lay_preferred::places::places;
 use lay_tree::boxes::{children, is_floated, kind};
 use lay_tree::contents::{floats_in, has_line, holds_inline};
-use std::alloc::{AllocError, Global};
+use std::alloc::AllocError;
 use viz_base::{BoxTree, Kind, List, Placed, Rendering};
 use viz_calc::Steady;
 
 /// The floats among some boxes.
-fn floated(alloc: Global, tree: &BoxTree, boxes: &[u32]) -> Result<Vec<u32>, AllocError>
+fn floated(tree: &BoxTree, boxes: &[u32]) -> Result<Vec<u32>, AllocError>
     ensures { IfOk result (λ floats. floats.items ≡ filter (is_floated_at tree.now) boxes.now) }
 {
-    let mut floats = Vec::new(alloc);
+    let mut floats = Vec::new(tree.boxes.allocator());
     for at in boxes {
         if is_floated(tree, *at) {
             floats.push(*at)?;
@@ -42,19 +42,19 @@ fn floated(alloc: Global, tree: &BoxTree, boxes: &[u32]) -> Result<Vec<u32>, All
 
 /// What stands in a block container and not in its flow: the floats and atomic boxes of its lines, or the floats
 /// between its blocks. They are behind it.
-fn outside_of(alloc: Global, tree: &BoxTree, b: u32) -> Result<Vec<u32>, AllocError>
+fn outside_of(tree: &BoxTree, b: u32) -> Result<Vec<u32>, AllocError>
     requires { b < length tree.now.boxes }
     ensures { IfOk result (λ boxes. boxes.items ≡ outside tree.now b) }
 {
     if has_line(tree, b) {
-        return inner_boxes(alloc, tree, b);
+        return inner_boxes(tree, b);
     }
     // Floats between blocks are children of the container; those in lines are among its items.
     if !holds_inline(tree, b) {
-        return floated(alloc, tree, children(tree, b));
+        return floated(tree, children(tree, b));
     }
-    let floats = floats_in(alloc, tree, b)?;
-    floated(alloc, tree, floats.as_slice())
+    let floats = floats_in(tree, b)?;
+    floated(tree, floats.as_slice())
 }
 
 /// Boxes that are laid out by themselves, each at the place of its number.
@@ -74,7 +74,6 @@ fn keep<N: Drop>(table: &mut Outside<N>, k: u32, laid: Independent<N>)
 
 /// Lays out a box by itself where its containing block is as wide as the tree says.
 fn add_box<S: Steady>(
-    alloc: Global,
     calc: &mut S,
     tree: &BoxTree,
     found: &mut Found<S::Num>,
@@ -93,18 +92,17 @@ fn add_box<S: Steady>(
         (λ e. BoxAddedFits tree.now e.world (table_at S.at table.old.places.items e) k)) }
 {
     // How wide the containing block is needs no layout: the tree tells it, level by level.
-    let room = room(alloc, calc, tree, found, u64::from(k) + 1, k);
+    let room = room(calc, tree, found, u64::from(k) + 1, k);
     let page = Page {
         tree,
         apart: table.places.as_slice(),
     };
-    let laid = independent(alloc, calc, &page, found, k, &room);
+    let laid = independent(calc, &page, found, k, &room);
     keep(table, k, laid);
 }
 
 /// Lays out boxes by themselves, one after another.
 fn add_boxes<S: Steady>(
-    alloc: Global,
     calc: &mut S,
     tree: &BoxTree,
     found: &mut Found<S::Num>,
@@ -123,14 +121,13 @@ fn add_boxes<S: Steady>(
         (λ e. BoxesAddedFit tree.now e.world (table_at S.at table.old.places.items e) boxes.now)) }
 {
     for k in boxes {
-        add_box(alloc, calc, tree, found, *k, table);
+        add_box(calc, tree, found, *k, table);
     }
 }
 
 #[tactic(auto, unfolding(lay_steps::specs::Tables::with_container))]
 /// Lays out what stands outside the flow of a box; an inline box is no block container.
 fn add_container<S: Steady>(
-    alloc: Global,
     calc: &mut S,
     tree: &BoxTree,
     found: &mut Found<S::Num>,
@@ -152,19 +149,19 @@ fn add_container<S: Steady>(
     if matches!(kind(tree, b), Kind::Inline) {
         return;
     }
-    match outside_of(alloc, tree, b) {
-        Ok(boxes) => add_boxes(alloc, calc, tree, found, boxes.as_slice(), table),
+    match outside_of(tree, b) {
+        Ok(boxes) => add_boxes(calc, tree, found, boxes.as_slice(), table),
         Err(_) => calc.stop(),
     }
 }
 
 /// A place for each box of a tree, and how many there are. No clause says when there is none.
-fn table_of<N: Drop>(alloc: Global, tree: &BoxTree) -> Option<(u32, Outside<N>)>
+fn table_of<N: Drop>(tree: &BoxTree) -> Option<(u32, Outside<N>)>
     ensures { IfSome result (λ made. (made.0 ≡ length tree.now.boxes)
         × (made.1.places.items ≡ replicate (length tree.now.boxes) None)) }
 {
     let count = tree.boxes.len();
-    match (u32::try_from(count), places(alloc, count)) {
+    match (u32::try_from(count), places(tree.boxes.allocator(), count)) {
         (Ok(count), Ok(places)) => Some((count, Outside { places })),
         _ => None,
     }
@@ -172,7 +169,6 @@ fn table_of<N: Drop>(alloc: Global, tree: &BoxTree) -> Option<(u32, Outside<N>)>
 
 /// Lays out what stands outside the flow of each of so many boxes, from the last one on.
 fn fill<S: Steady>(
-    alloc: Global,
     calc: &mut S,
     tree: &BoxTree,
     found: &mut Found<S::Num>,
@@ -192,13 +188,12 @@ fn fill<S: Steady>(
 {
     // From the last box on: all that is in a box stands behind it, so its entries are there already.
     for done in 0..count {
-        add_container(alloc, calc, tree, found, count - 1 - done, table);
+        add_container(calc, tree, found, count - 1 - done, table);
     }
 }
 
 /// Lays out what stands outside the flow of a page.
 fn outside_flow<S: Steady>(
-    alloc: Global,
     calc: &mut S,
     tree: &BoxTree,
     found: &mut Found<S::Num>,
@@ -212,22 +207,22 @@ fn outside_flow<S: Steady>(
     ensures cause { BlamesButMem (S.run calc.old) (S.run calc.new)
         (AllFit tree.now (S.run calc.old).is_open (λ e. TableFits tree.now e.world)) }
 {
-    match table_of(alloc, tree) {
+    match table_of(tree) {
         Some((count, mut table)) => {
-            fill(alloc, calc, tree, found, count, &mut table);
+            fill(calc, tree, found, count, &mut table);
             table
         }
         None => {
             calc.stop();
             Outside {
-                places: Vec::new(alloc),
+                places: Vec::new(tree.boxes.allocator()),
             }
         }
     }
 }
 
 /// The boxes of a page.
-fn boxes<S: Steady>(alloc: Global, calc: &mut S, tree: &BoxTree) -> Vec<Placed<S::Num>>
+fn boxes<S: Steady>(calc: &mut S, tree: &BoxTree) -> Vec<Placed<S::Num>>
     ensures goes { Goes (S.run calc.old) (S.run calc.new) }
     ensures value { WhereOpen (S.run calc.new).is_open
         (λ e. boxes_at S.at result.items e ≡ page_boxes tree.now e.world) }
@@ -235,27 +230,27 @@ fn boxes<S: Steady>(alloc: Global, calc: &mut S, tree: &BoxTree) -> Vec<Placed<S
         (AllFit tree.now (S.run calc.old).is_open (λ e. PageComesFit tree.now e.world)) }
 {
     if tree.boxes.is_empty() {
-        return Vec::new(alloc);
+        return Vec::new(tree.boxes.allocator());
     }
     // One table of preferred widths for the page, so that each box is measured once.
-    let mut found = nothing_found(alloc, calc, tree);
-    let table = outside_flow(alloc, calc, tree, &mut found);
+    let mut found = nothing_found(calc, tree);
+    let table = outside_flow(calc, tree, &mut found);
     let page = Page {
         tree,
         apart: table.places.as_slice(),
     };
     let room = calc.width();
-    independent(alloc, calc, &page, &mut found, 0, &room).boxes
+    independent(calc, &page, &mut found, 0, &room).boxes
 }
 
 /// The rendering of a page at each reading that is open at the end.
-pub fn render<S: Steady>(alloc: Global, calc: &mut S, tree: &BoxTree) -> Rendering<S::Num>
+pub fn render<S: Steady>(calc: &mut S, tree: &BoxTree) -> Rendering<S::Num>
     ensures goes { Goes (S.run calc.old) (S.run calc.new) }
     ensures value { WhereOpen (S.run calc.new).is_open
         (λ e. rendering_at S.at result e ≡ page_rendering tree.now e.world) }
     ensures cause { BlamesButMem (S.run calc.old) (S.run calc.new)
         (IsWithinLimits tree.now (S.run calc.old).is_open) }
 {
-    let boxes = List::from(boxes(alloc, calc, tree));
+    let boxes = List::from(boxes(calc, tree));
     Rendering { boxes }
 }

@@ -27,7 +27,6 @@ use lay_margin::Run;
 use lay_margin::engine::{empty, value};
 use lay_margin::leads::{copy_run, join_bottom};
 use lay_tree::adjoining::is_open_above;
-use std::alloc::Global;
 use viz_base::{Band, BoxTree, List};
 use viz_calc::{Steady, greater, lesser};
 
@@ -41,7 +40,6 @@ struct Gone<N> {
 #[tactic(auto, unfolding(crate::specs::Ways::way_at))]
 /// Goes forward from a box in a context.
 fn go<S: Steady>(
-    alloc: Global,
     calc: &mut S,
     page: &Page<'_, S::Num>,
     base: &Base<S::Num>,
@@ -62,7 +60,7 @@ fn go<S: Steady>(
 {
     let mut going = Going {
         run,
-        waiting: List::new(alloc),
+        waiting: List::new(page.tree.boxes.allocator()),
         tries: None,
     };
     let way = Way {
@@ -72,7 +70,7 @@ fn go<S: Steady>(
         least: &context.least,
         past,
     };
-    let end = forward(alloc, calc, &way, cb, b, &mut going);
+    let end = forward(calc, &way, cb, b, &mut going);
     Gone { going, end }
 }
 
@@ -110,7 +108,6 @@ fn copy_cleared<S: Steady>(
 #[tactic(auto, unfolding(lay_steps::specs::Flow::reached_from))]
 /// Where a box is reached whose edge would be y, and the run before it: all before the cleared box stand at y.
 fn reached_from<S: Steady>(
-    alloc: Global,
     calc: &mut S,
     page: &Page<'_, S::Num>,
     cb: &Band<S::Num>,
@@ -143,7 +140,7 @@ fn reached_from<S: Steady>(
                 // A cleared box stands exactly at the floats' bottom, whatever its margins.
                 let base = Base::Stands(cleared.edge);
                 let run = empty(calc);
-                let gone = go(alloc, calc, page, &base, Some(b), cb, context, b, run);
+                let gone = go(calc, page, &base, Some(b), cb, context, b, run);
                 Met {
                     reached: Reached {
                         top,
@@ -169,7 +166,6 @@ fn reached_from<S: Steady>(
 #[tactic(auto, unfolding(lay_steps::specs::Flow::reached_of))]
 /// Where a box that comes next stands, and the run before it with its lead joined.
 pub fn reach<S: Steady>(
-    alloc: Global,
     calc: &mut S,
     page: &Page<'_, S::Num>,
     cb: &Band<S::Num>,
@@ -188,7 +184,7 @@ pub fn reach<S: Steady>(
             let y = calc.copy(y);
             let cleared = copy_cleared(calc, cleared);
             let run = empty(calc);
-            reached_from(alloc, calc, page, cb, context, b, y, cleared, run)
+            reached_from(calc, page, cb, context, b, y, cleared, run)
         }
         Standing::Below {
             edge,
@@ -198,21 +194,11 @@ pub fn reach<S: Steady>(
             let run = copy_run(calc, run);
             let from = calc.copy(edge);
             let base = Base::Hangs(from);
-            let gone = go(alloc, calc, page, &base, None, cb, context, b, run);
+            let gone = go(calc, page, &base, None, cb, context, b, run);
             let margin = value(calc, &gone.going.run);
             let y = calc.add(edge, &margin);
             let cleared = cleared_of(gone.end);
-            reached_from(
-                alloc,
-                calc,
-                page,
-                cb,
-                context,
-                b,
-                y,
-                cleared,
-                gone.going.run,
-            )
+            reached_from(calc, page, cb, context, b, y, cleared, gone.going.run)
         }
     }
 }

@@ -199,7 +199,6 @@ fn leave<S: Steady>(
 #[tactic(auto, using(lay_frame::proofs::Slots::seams), unfolding(lay_steps::specs::Flow::laid_context))]
 /// Lays out a box that starts a context; the one around it goes on as it was, but for the last line's baseline.
 fn lay_context<S: Steady>(
-    alloc: Global,
     calc: &mut S,
     page: &Page<'_, S::Num>,
     cb: &Band<S::Num>,
@@ -230,9 +229,9 @@ fn lay_context<S: Steady>(
 {
     let band = content_between(calc, &cb.left, &shape.x);
     let top = content_top(calc, shape);
-    let mut own = fresh(alloc, calc, &top);
+    let mut own = fresh(page.tree.boxes.allocator(), calc, &top);
     let place = keep(calc, page.tree, b, shape, out);
-    content(alloc, calc, page, &band, &top, &mut own, b, out);
+    content(calc, page, &band, &top, &mut own, b, out);
     let placed = context_box(calc, page, b, shape, &own);
     let bottom = calc.copy(&placed.border.bottom);
     put::<S>(out, place, placed);
@@ -250,7 +249,6 @@ fn lay_context<S: Steady>(
 #[tactic(auto, using(lay_frame::proofs::Slots::seams), unfolding(lay_steps::specs::Flow::laid_block))]
 /// Lays out another block, which goes on with the context.
 fn lay_block<S: Steady>(
-    alloc: Global,
     calc: &mut S,
     page: &Page<'_, S::Num>,
     cb: &Band<S::Num>,
@@ -288,7 +286,7 @@ fn lay_block<S: Steady>(
     let standing = standing_in(calc, page.tree, b, cleared, shape);
     open(calc, shape, standing, context);
     let place = keep(calc, page.tree, b, shape, out);
-    content(alloc, calc, page, &band, &top, context, b, out);
+    content(calc, page, &band, &top, context, b, out);
     let placed = block_box(calc, page, b, shape, context);
     let bottom = calc.copy(&placed.border.bottom);
     put::<S>(out, place, placed);
@@ -307,7 +305,6 @@ fn lay_block<S: Steady>(
 #[tactic(auto, unfolding(lay_steps::specs::Flow::laid))]
 /// Lays out a box in flow that is reached.
 fn lay<S: Steady>(
-    alloc: Global,
     calc: &mut S,
     page: &Page<'_, S::Num>,
     cb: &Band<S::Num>,
@@ -336,22 +333,21 @@ fn lay<S: Steady>(
         (context_at S.at context.old e) b (S.at top.now e) (cleared_at S.at cleared e)))) }
     ensures agrees { Agree S.at (S.run calc.new).is_open context.new.floats }
 {
-    let shape = shape(alloc, calc, page, cb, b, top);
+    let shape = shape(calc, page, cb, b, top);
     if is_replaced(page.tree, b) {
         let room = inline_size(calc, cb);
         return lay_replaced(calc, page, &room, context, b, &shape, out);
     }
     if establishes_context(page.tree, b) {
-        return lay_context(alloc, calc, page, cb, context, b, &shape, out);
+        return lay_context(calc, page, cb, context, b, &shape, out);
     }
-    lay_block(alloc, calc, page, cb, context, b, cleared, &shape, out)
+    lay_block(calc, page, cb, context, b, cleared, &shape, out)
 }
 
 #[cycle(flow)]
 #[tactic(auto, unfolding(lay_steps::specs::Flow::flow_child))]
 /// A box in flow.
 fn flow<S: Steady>(
-    alloc: Global,
     calc: &mut S,
     page: &Page<'_, S::Num>,
     cb: &Band<S::Num>,
@@ -377,21 +373,11 @@ fn flow<S: Steady>(
         (context_at S.at context.old e) b))) }
     ensures agrees { Agree S.at (S.run calc.new).is_open context.new.floats }
 {
-    let mut met = reach(alloc, calc, page, cb, context, b);
+    let mut met = reach(calc, page, cb, context, b);
     // Laying the box out moves the context on; where it collapses through, the next one starts from here again.
     let before = copy_standing(calc, &context.standing);
     let cleared = std::mem::replace(&mut met.reached.cleared, None);
-    let laid = lay(
-        alloc,
-        calc,
-        page,
-        cb,
-        context,
-        b,
-        &met.reached.top,
-        cleared,
-        out,
-    );
+    let laid = lay(calc, page, cb, context, b, &met.reached.top, cleared, out);
     context.standing = standing_after(calc, page.tree, cb, before, b, met, laid);
 }
 
@@ -399,7 +385,6 @@ fn flow<S: Steady>(
 #[tactic(auto, unfolding(lay_steps::specs::Flow::child))]
 /// A child of a block container.
 fn child<S: Steady>(
-    alloc: Global,
     calc: &mut S,
     page: &Page<'_, S::Num>,
     cb: &Band<S::Num>,
@@ -429,14 +414,13 @@ fn child<S: Steady>(
     if is_floated(page.tree, k) {
         float(calc, page, cb, top, context, k, out);
     } else {
-        flow(alloc, calc, page, cb, context, k, out);
+        flow(calc, page, cb, context, k, out);
     }
 }
 
 #[cycle(flow)]
 /// Children of a block container, behind it, one after another.
 fn children<S: Steady>(
-    alloc: Global,
     calc: &mut S,
     page: &Page<'_, S::Num>,
     cb: &Band<S::Num>,
@@ -470,14 +454,13 @@ fn children<S: Steady>(
     ensures agrees { Agree S.at (S.run calc.new).is_open context.new.floats }
 {
     for k in boxes {
-        child(alloc, calc, page, cb, top, context, *k, out);
+        child(calc, page, cb, top, context, *k, out);
     }
 }
 
 #[cycle(flow)]
 /// What is in a block container: its lines, or its children one after another.
 pub fn content<S: Steady>(
-    alloc: Global,
     calc: &mut S,
     page: &Page<'_, S::Num>,
     cb: &Band<S::Num>,
@@ -506,27 +489,17 @@ pub fn content<S: Steady>(
 {
     let tree = page.tree;
     if has_line(tree, b) {
-        in_lines(alloc, calc, page, b, cb, top, context, out);
+        in_lines(calc, page, b, cb, top, context, out);
         return;
     }
     if !holds_inline(tree, b) {
         let kids = child_boxes(tree, b);
-        children(alloc, calc, page, cb, top, context, b, kids, out);
+        children(calc, page, cb, top, context, b, kids, out);
         return;
     }
-    match floats_in(alloc, tree, b) {
+    match floats_in(tree, b) {
         Ok(floats) => {
-            children(
-                alloc,
-                calc,
-                page,
-                cb,
-                top,
-                context,
-                b,
-                floats.as_slice(),
-                out,
-            );
+            children(calc, page, cb, top, context, b, floats.as_slice(), out);
         }
         Err(_) => calc.stop(),
     }

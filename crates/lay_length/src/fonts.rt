@@ -1,5 +1,5 @@
 //! Font sizes, line heights and the measures of fonts (CSS 2.1, 10.8.1, 15.7).
-ghost use Rattle.std.specs.Prelude.{◌≤◌, length, [], ◌∷◌};
+ghost use Rattle.std.specs.Prelude.{◌≡◌, ◌≤◌, length, [], ◌∷◌};
 ghost use Rattle.std.specs.Str.{chars};
 ghost use Rattle.viz_base.specs.declared.limits.TheConstants.{MOST_CHARACTERS};
 ghost use Rattle.viz_calc.specs.State.{AllSmall};

@@ -188,7 +188,6 @@ fn break_until(alloc: Global, items: &[Item]) -> Result<usize, AllocError>
 
 /// Behind how many items after a thing that isn't a forced break the content is parted, if it is.
 fn behind(
-    alloc: Global,
     tree: &BoxTree,
     parting: Parting,
     before: Option<Item>,
@@ -202,7 +201,7 @@ fn behind(
     match next_thing(after) {
         Some(next) => {
             if may_part(tree, parting, before, thing, &next) {
-                Ok(Some(break_until(alloc, after)?))
+                Ok(Some(break_until(tree.boxes.allocator(), after)?))
             } else {
                 Ok(None)
             }
@@ -213,7 +212,6 @@ fn behind(
 
 /// Behind how many items after a thing the content is parted, if it is.
 fn place(
-    alloc: Global,
     tree: &BoxTree,
     parting: Parting,
     before: Option<Item>,
@@ -225,7 +223,7 @@ fn place(
 {
     match thing {
         Item::Forced(_) => Ok(Some(leading_ends(after))),
-        _ => behind(alloc, tree, parting, before, thing, after),
+        _ => behind(tree, parting, before, thing, after),
     }
 }
 
@@ -251,7 +249,6 @@ fn is_here(left: Option<usize>) -> bool
 
 /// How many items there are up to the break behind the last thing, after one more.
 fn left_after(
-    alloc: Global,
     tree: &BoxTree,
     parting: Parting,
     last: Option<Item>,
@@ -263,7 +260,7 @@ fn left_after(
         (option_map item_of last.entry) left (item_of item.now) (items_of after.now)) }
 {
     if is_thing(item) {
-        place(alloc, tree, parting, last, item, after)
+        place(tree, parting, last, item, after)
     } else {
         Ok(one_less(left))
     }
@@ -278,22 +275,17 @@ fn last_after<'a>(last: Option<Item<'a>>, item: &Item<'a>) -> Option<Item<'a>>
 }
 
 /// Whether a part of the content ends behind each item.
-pub fn marks(
-    alloc: Global,
-    tree: &BoxTree,
-    parting: Parting,
-    items: &[Item],
-) -> Result<Vec<bool>, AllocError>
+pub fn marks(tree: &BoxTree, parting: Parting, items: &[Item]) -> Result<Vec<bool>, AllocError>
     ensures { IfOk result (λ marks. marks.items ≡ marks_of (parting_of tree.now parting) None None
         (items_of items.now)) }
 {
-    let mut marks = Vec::new(alloc);
+    let mut marks = Vec::new(tree.boxes.allocator());
     let mut last = None;
     let mut left = None;
     let mut count = 0;
     for item in items {
         count += 1;
-        left = left_after(alloc, tree, parting, last, left, item, &items[count..])?;
+        left = left_after(tree, parting, last, left, item, &items[count..])?;
         last = last_after(last, item);
         marks.push(is_here(left))?;
     }

@@ -7,7 +7,7 @@ ghost use Rattle.lay_line.specs.steps.Content.{IsSum, behind_space, own_items, s
 
 use crate::items::Item;
 use lay_tree::boxes::{children, is_floated, kind};
-use std::alloc::{AllocError, Global};
+use std::alloc::AllocError;
 use viz_base::{BoxTree, Kind, Word};
 
 /// Adds an item.
@@ -105,12 +105,12 @@ fn add_content<'a>(tree: &'a BoxTree, at: u32, items: &mut Vec<Item<'a>>) -> Res
 
 /// The inline content of a box, in document order: what its texts, floats and atomic boxes are, and where its inline
 /// boxes start and end. Each word has the sum of its advances. Fails for want of memory alone.
-pub fn content(alloc: Global, tree: &BoxTree, at: u32) -> Result<Vec<Item<'_>>, AllocError>
+pub fn content(tree: &BoxTree, at: u32) -> Result<Vec<Item<'_>>, AllocError>
     requires { at < length tree.now.boxes }
     ensures value { IfOk result (λ items. items_of items.items ≡ content_of tree.now at) }
     ensures kept { IfOk result (λ items. AllByRecursion (IsSum tree.now) (summed_of items.items)) }
 {
-    let mut items = Vec::new(alloc);
+    let mut items = Vec::new(tree.boxes.allocator());
     add_content(tree, at, &mut items)?;
     Ok(items)
 }

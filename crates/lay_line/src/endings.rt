@@ -27,7 +27,6 @@ use crate::loads::Load;
 use crate::meeting::{Met, Slot, floats_of, place_each};
 use lay_float::engine::band;
 use lay_float::{Floats, PlacedFloat};
-use std::alloc::Global;
 use viz_base::{Band, Entry, List, Spot};
 use viz_calc::{Steady, greater};
 
@@ -169,7 +168,6 @@ fn content_of<S: Steady>(
 
 /// Adds a line that exists, where its floats stand, and gives where the next one begins.
 fn end_full<S: Steady>(
-    alloc: Global,
     calc: &mut S,
     container: &Container<'_, S::Num>,
     begun: Begun<S::Num>,
@@ -206,14 +204,7 @@ fn end_full<S: Steady>(
         load.met.floats.placed.as_slice(),
         begun.least,
     );
-    let late = place_waiting(
-        alloc,
-        calc,
-        container,
-        &edges.least,
-        &edges.bottom,
-        load.met,
-    );
+    let late = place_waiting(calc, container, &edges.least, &edges.bottom, load.met);
     add_box(
         calc,
         container,
@@ -232,7 +223,6 @@ fn end_full<S: Steady>(
         late.spots,
     );
     add_content(
-        alloc,
         calc,
         container,
         content,
@@ -252,7 +242,6 @@ fn end_full<S: Steady>(
 
 /// Adds the floats of a line that doesn't exist, and gives where the next one begins: where this one would have.
 fn end_empty<S: Steady>(
-    alloc: Global,
     calc: &mut S,
     container: &Container<'_, S::Num>,
     begun: Begun<S::Num>,
@@ -277,6 +266,7 @@ fn end_empty<S: Steady>(
         (slot_at S.at line.entry.slot e) (load_at S.at line.entry.load e)
         (pieces_at S.at line.entry.pieces.now e))) }
 {
+    let alloc = container.tree.boxes.allocator();
     let load = line.load;
     let before = load.met;
     let mut floats = before.floats;
@@ -308,7 +298,6 @@ fn end_empty<S: Steady>(
 
 /// Adds a line that is full.
 pub fn end_line<S: Steady>(
-    alloc: Global,
     calc: &mut S,
     container: &Container<'_, S::Num>,
     begun: Begun<S::Num>,
@@ -335,8 +324,8 @@ pub fn end_line<S: Steady>(
         (pieces_at S.at line.entry.pieces.now e))) }
 {
     if line.load.is_line {
-        end_full(alloc, calc, container, begun, line, entries)
+        end_full(calc, container, begun, line, entries)
     } else {
-        end_empty(alloc, calc, container, begun, line, entries)
+        end_empty(calc, container, begun, line, entries)
     }
 }

@@ -32,9 +32,8 @@ fn laid<C: Calc>(
         → IsTrue ((C.state calc.old).is_open e) → LinesFit (context_at C.at container.now e) (C.at y.now e)
         (C.at least.now e) (floats_at C.at floats e))) }
 {
-    let alloc = container.tree.boxes.allocator();
     let mut latch = Latch::new(calc);
-    let laid = lining::lines(alloc, &mut latch, container, y, least, floats);
+    let laid = lining::lines(&mut latch, container, y, least, floats);
     latch.finish(laid)
 }
 

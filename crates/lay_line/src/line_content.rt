@@ -152,7 +152,6 @@ pub struct Content<N> {
 
 /// Adds what the content of a line adds.
 pub fn add_content<S: Steady>(
-    alloc: Global,
     calc: &mut S,
     container: &Container<'_, S::Num>,
     content: Content<S::Num>,
@@ -169,7 +168,12 @@ pub fn add_content<S: Steady>(
         (spots_at S.at content.spots.items e) (pieces_at S.at pieces.now e)) }
 {
     let right = calc.add(&content.left, &content.width);
-    let set = places(alloc, calc, &content.left, pieces);
+    let set = places(
+        container.tree.boxes.allocator(),
+        calc,
+        &content.left,
+        pieces,
+    );
     let line = SetLine {
         baseline: content.baseline,
         left: content.left,
@@ -182,7 +186,6 @@ pub fn add_content<S: Steady>(
 
 /// The floats that waited, placed from the line's bottom on.
 pub fn place_waiting<S: Steady>(
-    alloc: Global,
     calc: &mut S,
     container: &Container<'_, S::Num>,
     least: &S::Num,
@@ -202,7 +205,7 @@ pub fn place_waiting<S: Steady>(
     let mut late = Met {
         spots,
         floats,
-        waiting: Vec::new(alloc),
+        waiting: Vec::new(container.tree.boxes.allocator()),
     };
     place_each(
         calc,

@@ -32,7 +32,6 @@ use crate::segments::{Cut, Segments, cut_first};
 use crate::sizes::measure;
 use crate::tops::{Wanted, line_top};
 use lay_float::Floats;
-use std::alloc::Global;
 use viz_base::{BoxTree, Entry, Lines, List};
 use viz_calc::Steady;
 
@@ -52,7 +51,6 @@ struct Next<'p, 'a, N> {
 
 /// Adds the next line.
 fn next_line<'p, 'a, S: Steady>(
-    alloc: Global,
     calc: &mut S,
     frame: &Frame<'_, '_, S::Num>,
     now: SoFar<S::Num>,
@@ -89,7 +87,7 @@ fn next_line<'p, 'a, S: Steady>(
     // The first segment stands on the line in any case; how wide it is decides where the line's top is.
     let held = with_pieces(calc, start, first);
     // Floats before anything else on the line are placed from where it begins, before its top is looked for.
-    let met = meet_before(alloc, calc, container, &begun, floats, first);
+    let met = meet_before(calc, container, &begun, floats, first);
     let top = line_top(
         calc,
         &Wanted {
@@ -110,8 +108,8 @@ fn next_line<'p, 'a, S: Steady>(
         held,
         guess: now.guess,
     };
-    let load = first_load(alloc, calc, container, &slot, opening);
-    let filled = fill(alloc, calc, container, &slot, load, cut.rest);
+    let load = first_load(calc, container, &slot, opening);
+    let filled = fill(calc, container, &slot, load, cut.rest);
     // What the line took is told by what is left, so that nothing is counted on the way.
     let count = cut.pieces.len().saturating_sub(filled.rest.pieces.len());
     let (pieces, _) = cut.pieces.split_at(count);
@@ -120,7 +118,7 @@ fn next_line<'p, 'a, S: Steady>(
         load: filled.load,
         pieces,
     };
-    let now = end_line(alloc, calc, container, begun, line, entries);
+    let now = end_line(calc, container, begun, line, entries);
     Next {
         now,
         rest: filled.rest,
@@ -129,7 +127,6 @@ fn next_line<'p, 'a, S: Steady>(
 
 /// Adds the lines of segments, one after another.
 fn lay<S: Steady>(
-    alloc: Global,
     calc: &mut S,
     frame: &Frame<'_, '_, S::Num>,
     start: SoFar<S::Num>,
@@ -161,7 +158,7 @@ fn lay<S: Steady>(
     for line in 0..count {
         match cut_first(&rest) {
             Some(cut) => {
-                let next = next_line(alloc, calc, frame, now, cut, entries);
+                let next = next_line(calc, frame, now, cut, entries);
                 now = next.now;
                 rest = next.rest;
             }
@@ -172,7 +169,7 @@ fn lay<S: Steady>(
 }
 
 /// The inline content of a container; nothing after a halt.
-fn items_in<'t, S: Steady>(alloc: Global, calc: &mut S, tree: &'t BoxTree, at: u32) -> Vec<Item<'t>>
+fn items_in<'t, S: Steady>(calc: &mut S, tree: &'t BoxTree, at: u32) -> Vec<Item<'t>>
     requires { at < length tree.now.boxes }
     ensures goes { Goes (S.run calc.old) (S.run calc.new) }
     ensures value { WhereOpen (S.run calc.new).is_open
@@ -180,25 +177,25 @@ fn items_in<'t, S: Steady>(alloc: Global, calc: &mut S, tree: &'t BoxTree, at: u
     ensures cause { BlamesButMem (S.run calc.old) (S.run calc.new) ⊤ }
     ensures kept { AllByRecursion (IsSum tree.now) (summed_of result.items) }
 {
-    match content(alloc, tree, at) {
+    match content(tree, at) {
         Ok(items) => items,
         Err(_) => {
             calc.stop();
-            Vec::new(alloc)
+            Vec::new(tree.boxes.allocator())
         }
     }
 }
 
 /// Where segments end.
-fn marks_in<S: Steady>(alloc: Global, calc: &mut S, tree: &BoxTree, items: &[Item]) -> Vec<bool>
+fn marks_in<S: Steady>(calc: &mut S, tree: &BoxTree, items: &[Item]) -> Vec<bool>
     ensures { LaysButMem S.run calc.old calc.new (λ e. result.items)
         (λ e. marks_of (may_part tree.now) None None (items_of items.now)) (λ e. ⊤) }
 {
-    match marks(alloc, tree, Parting::Lines, items) {
+    match marks(tree, Parting::Lines, items) {
         Ok(marks) => marks,
         Err(_) => {
             calc.stop();
-            Vec::new(alloc)
+            Vec::new(tree.boxes.allocator())
         }
     }
 }
@@ -214,7 +211,6 @@ pub struct Laid<N> {
 
 /// The lines of a block container, from y on.
 pub fn lines<S: Steady>(
-    alloc: Global,
     calc: &mut S,
     container: &Container<'_, S::Num>,
     y: &S::Num,
@@ -228,9 +224,10 @@ pub fn lines<S: Steady>(
         (λ e. LinesFit (context_at S.at container.now e) (S.at y.now e) (S.at least.now e)
         (floats_at S.at floats e)) }
 {
-    let items = items_in(alloc, calc, container.tree, container.at);
-    let pieces = measure(alloc, calc, container, items.as_slice());
-    let marks = marks_in(alloc, calc, container.tree, items.as_slice());
+    let alloc = container.tree.boxes.allocator();
+    let items = items_in(calc, container.tree, container.at);
+    let pieces = measure(calc, container, items.as_slice());
+    let marks = marks_in(calc, container.tree, items.as_slice());
     // Which floats a line meets is asked of the tallest line, so its own height need not be known yet.
     let tall = tallest(calc, container, pieces.as_slice());
     let start = SoFar {
@@ -251,7 +248,7 @@ pub fn lines<S: Steady>(
         marks: marks.as_slice(),
     };
     let mut entries = List::new(alloc);
-    let end = lay(alloc, calc, &frame, start, segments, &mut entries);
+    let end = lay(calc, &frame, start, segments, &mut entries);
     Laid {
         lines: Lines {
             entries,

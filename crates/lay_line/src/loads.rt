@@ -274,7 +274,6 @@ pub struct Taken<'p, 'a, N> {
 #[tactic(auto, unfolding(crate::specs::Contexts::context_at, crate::specs::steps::Loading::loaded))]
 /// With one segment more.
 pub fn with_segment<S: Steady>(
-    alloc: Global,
     calc: &mut S,
     container: &Container<'_, S::Num>,
     slot: &Slot<S::Num>,
@@ -299,7 +298,12 @@ pub fn with_segment<S: Steady>(
         taken.floats,
     );
     let extent = extended(calc, container, load.extent, taken.part);
-    let opened = opened_behind(alloc, calc, load.opened, taken.part);
+    let opened = opened_behind(
+        container.tree.boxes.allocator(),
+        calc,
+        load.opened,
+        taken.part,
+    );
     Load {
         held: taken.held,
         is_ended: load.is_ended || has_forced(taken.part),
@@ -362,7 +366,6 @@ pub struct Loaded<'p, 'a, N> {
 /// Takes segments as long as they fit. Where several are words and spaces they are taken at once if the last of them
 /// fits: no word and no space is narrower than 0.
 pub(crate) fn fill<'p, 'a, S: Steady>(
-    alloc: Global,
     calc: &mut S,
     container: &Container<'_, S::Num>,
     slot: &Slot<S::Num>,
@@ -394,13 +397,13 @@ pub(crate) fn fill<'p, 'a, S: Steady>(
             continue;
         }
         // Floats inside a segment are met at its end, when it is known to stand on this line.
-        let floats = floats_of(alloc, calc, next.first);
+        let floats = floats_of(container.tree.boxes.allocator(), calc, next.first);
         let taken = Taken {
             part: next.first,
             floats: floats.as_slice(),
             held,
         };
-        load = with_segment(alloc, calc, container, slot, load, taken);
+        load = with_segment(calc, container, slot, load, taken);
         load.guess = load.guess.taken(next.size);
         rest = next.rest;
     }

@@ -53,7 +53,6 @@ fn copy_boxes<S: Steady>(alloc: Global, calc: &mut S, boxes: &[u32]) -> Vec<u32>
 #[tactic(auto, unfolding(crate::specs::steps::Loading::ahead, crate::specs::steps::Lining::met_before))]
 /// The floats that stand before anything on a line.
 pub fn meet_before<S: Steady>(
-    alloc: Global,
     calc: &mut S,
     container: &Container<'_, S::Num>,
     begun: &Begun<S::Num>,
@@ -67,6 +66,7 @@ pub fn meet_before<S: Steady>(
         (S.at begun.now.least e) (S.at begun.now.y e)
         (float_boxes (bare (pieces_at S.at first.now e)))) }
 {
+    let alloc = container.tree.boxes.allocator();
     let (before, _) = first.split_at(ahead(container.tree, first));
     let boxes = floats_of(alloc, calc, before);
     let mut met = Met {
@@ -87,7 +87,6 @@ pub fn meet_before<S: Steady>(
 
 /// A line with its first segment, which stands on it in any case.
 pub fn first_load<S: Steady>(
-    alloc: Global,
     calc: &mut S,
     container: &Container<'_, S::Num>,
     slot: &Slot<S::Num>,
@@ -100,6 +99,7 @@ pub fn first_load<S: Steady>(
         (λ e. FirstFits (context_at S.at container.now e) (slot_at S.at slot.now e)
         (met_at S.at opening.entry.met e) (pieces_at S.at opening.entry.first.now e)) }
 {
+    let alloc = container.tree.boxes.allocator();
     let strut = strut(calc, container);
     let extent = extent_at_start(calc, container, strut, opening.opened);
     let opened = copy_boxes(alloc, calc, opening.opened);
@@ -125,5 +125,5 @@ pub fn first_load<S: Steady>(
         floats: floats.as_slice(),
         held: opening.held,
     };
-    with_segment(alloc, calc, container, slot, load, taken)
+    with_segment(calc, container, slot, load, taken)
 }

@@ -24,7 +24,6 @@ use lay_length::fonts::{text_width, word_width};
 use lay_length::lengths::{used, zero};
 use lay_tree::boxes::node;
 use lay_tree::styles::{borders, margins, paddings};
-use std::alloc::Global;
 use viz_base::{Band, BoxTree, Length};
 use viz_calc::Steady;
 
@@ -150,7 +149,6 @@ fn add_piece<'a, S: Steady>(
 
 /// Items with what each takes.
 pub fn measure<'a, S: Steady>(
-    alloc: Global,
     calc: &mut S,
     container: &Container<'_, S::Num>,
     items: &[Item<'a>],
@@ -160,7 +158,7 @@ pub fn measure<'a, S: Steady>(
         (λ e. measured (width_in (context_at S.at container.now e)) (items_of items.now))
         (λ e. AllByRecursion (WidthFits (context_at S.at container.now e)) (items_of items.now)) }
 {
-    let mut pieces = Vec::new(alloc);
+    let mut pieces = Vec::new(container.tree.boxes.allocator());
     for item in items {
         let width = item_width(calc, container, item);
         add_piece(calc, &mut pieces, Piece { item: *item, width });

@@ -43,7 +43,7 @@ pub fn lead<C: Calc>(
         × LeadFits tree.now e.world (band_at C.at cb.now e) b))) }
 {
     let mut latch = Latch::new(calc);
-    let found = whole_lead(tree.boxes.allocator(), &mut latch, tree, b, cb, past, run);
+    let found = whole_lead(&mut latch, tree, b, cb, past, run);
     let found = latch.finish(found)?;
     *run = found.run;
     Ok(found.lead)

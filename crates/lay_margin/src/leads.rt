@@ -21,7 +21,6 @@ use lay_tree::boxes::{children, is_floated};
 use lay_tree::contents::{floats_in, has_line, holds_inline};
 use lay_tree::styles::margins;
 use lay_width::engine::block;
-use std::alloc::Global;
 use viz_base::{Band, BoxTree, Lead, LeadEnd, Length, List, Waiting, Widths};
 use viz_calc::Steady;
 
@@ -220,7 +219,6 @@ pub fn stops_at(tree: &BoxTree, past: Option<u32>, b: u32) -> bool
 /// Joins the margins that adjoin a box's top to a run, and adds the floats between them to those that wait. The box's
 /// own bottom margin is not among them; boxes up to `past` count as not cleared.
 pub fn lead<S: Steady>(
-    alloc: Global,
     calc: &mut S,
     tree: &BoxTree,
     b: u32,
@@ -238,13 +236,12 @@ pub fn lead<S: Steady>(
     if stops_at(tree, past, b) {
         return end_at(calc, LeadEnd::Cleared(b), cb);
     }
-    inner(alloc, calc, tree, b, cb, past, run, waiting)
+    inner(calc, tree, b, cb, past, run, waiting)
 }
 
 #[cycle(lead)]
 /// The same of a box that counts as not cleared.
 fn inner<S: Steady>(
-    alloc: Global,
     calc: &mut S,
     tree: &BoxTree,
     b: u32,
@@ -264,7 +261,7 @@ fn inner<S: Steady>(
         return end_at(calc, LeadEnd::Solid(b), cb);
     }
     let band = band_inside(calc, tree, cb, b);
-    let inside = content(alloc, calc, tree, b, &band, past, run, waiting);
+    let inside = content(calc, tree, b, &band, past, run, waiting);
     close(calc, tree, b, cb, inside)
 }
 
@@ -296,7 +293,6 @@ fn close<S: Steady>(
 #[cycle(lead)]
 /// The same of what is in the flow of a box.
 fn content<S: Steady>(
-    alloc: Global,
     calc: &mut S,
     tree: &BoxTree,
     b: u32,
@@ -312,30 +308,10 @@ fn content<S: Steady>(
         (λ e. KidsFit tree.now e.world (band_at S.at band.now e) (flow_children tree.now b)) }
 {
     if !holds_inline(tree, b) {
-        return kids(
-            alloc,
-            calc,
-            tree,
-            b,
-            children(tree, b),
-            band,
-            past,
-            run,
-            waiting,
-        );
+        return kids(calc, tree, b, children(tree, b), band, past, run, waiting);
     }
-    match floats_in(alloc, tree, b) {
-        Ok(floats) => kids(
-            alloc,
-            calc,
-            tree,
-            b,
-            floats.as_slice(),
-            band,
-            past,
-            run,
-            waiting,
-        ),
+    match floats_in(tree, b) {
+        Ok(floats) => kids(calc, tree, b, floats.as_slice(), band, past, run, waiting),
         Err(_) => {
             calc.stop();
             end_at(calc, LeadEnd::Through, band)
@@ -347,7 +323,6 @@ fn content<S: Steady>(
 #[tactic(auto, unfolding(crate::specs::steps::Leads::kid_of))]
 /// The same of boxes behind a box, one after another.
 fn kids<S: Steady>(
-    alloc: Global,
     calc: &mut S,
     tree: &BoxTree,
     b: u32,
@@ -367,7 +342,7 @@ fn kids<S: Steady>(
         (λ e. KidsFit tree.now e.world (band_at S.at band.now e) boxes.now) }
 {
     for place in boxes {
-        let end = kid(alloc, calc, tree, *place, band, past, run, waiting);
+        let end = kid(calc, tree, *place, band, past, run, waiting);
         if !matches!(end.end, LeadEnd::Through) {
             return end;
         }
@@ -378,7 +353,6 @@ fn kids<S: Steady>(
 #[cycle(lead)]
 /// The same of one: a float waits, and after a lead that goes through the bottom margin follows.
 fn kid<S: Steady>(
-    alloc: Global,
     calc: &mut S,
     tree: &BoxTree,
     k: u32,
@@ -400,7 +374,7 @@ fn kid<S: Steady>(
         wait(calc, band, k, waiting);
         return end_at(calc, LeadEnd::Through, band);
     }
-    let end = lead(alloc, calc, tree, k, band, past, run, waiting);
+    let end = lead(calc, tree, k, band, past, run, waiting);
     if !matches!(end.end, LeadEnd::Through) {
         return end;
     }
@@ -429,7 +403,6 @@ pub fn copy_run<S: Steady>(calc: &mut S, run: &Run<S::Num>) -> Run<S::Num>
 
 /// The margins that adjoin a box's top, with a run of theirs and those of this one.
 pub fn whole_lead<S: Steady>(
-    alloc: Global,
     calc: &mut S,
     tree: &BoxTree,
     b: u32,
@@ -452,8 +425,8 @@ pub fn whole_lead<S: Steady>(
         × LeadFits tree.now e.world (band_at S.at cb.now e) b)) }
 {
     let mut own = copy_run(calc, run);
-    let mut waiting = List::new(alloc);
-    let ended = lead(alloc, calc, tree, b, cb, past, &mut own, &mut waiting);
+    let mut waiting = List::new(tree.boxes.allocator());
+    let ended = lead(calc, tree, b, cb, past, &mut own, &mut waiting);
     Joined {
         lead: Lead {
             end: ended.end,

@@ -21,14 +21,12 @@ use lay_line::content::content;
 use lay_line::held::Piece;
 use lay_line::items::Item;
 use lay_tree::boxes::{children, is_floated};
-use std::alloc::Global;
 use viz_base::{BoxTree, Preferred};
 use viz_calc::Steady;
 
 #[cycle(preferred)]
 /// The outer widths of a box.
 fn outer<S: Steady>(
-    alloc: Global,
     calc: &mut S,
     tree: &BoxTree,
     at: u32,
@@ -47,14 +45,13 @@ fn outer<S: Steady>(
     if is_given(tree, at) {
         return given(calc, tree, at);
     }
-    let inside = preferred(alloc, calc, tree, at, found);
+    let inside = preferred(calc, tree, at, found);
     around(calc, tree, at, inside)
 }
 
 #[cycle(preferred)]
 /// What an item of a box's content takes.
 fn item_widths<S: Steady>(
-    alloc: Global,
     calc: &mut S,
     tree: &BoxTree,
     b: u32,
@@ -74,7 +71,7 @@ fn item_widths<S: Steady>(
         (λ e. ItemFits tree.now e.world (item_of item.now)))) }
 {
     match item {
-        Item::Atomic(at) | Item::Float(at) => outer(alloc, calc, tree, *at, found),
+        Item::Atomic(at) | Item::Float(at) => outer(calc, tree, *at, found),
         _ => {
             let width = item_width(calc, tree, item);
             both(calc, width)
@@ -85,7 +82,6 @@ fn item_widths<S: Steady>(
 #[cycle(preferred)]
 /// Items of a box's content with what each takes.
 fn measure<'a, S: Steady>(
-    alloc: Global,
     calc: &mut S,
     tree: &BoxTree,
     b: u32,
@@ -105,9 +101,9 @@ fn measure<'a, S: Steady>(
         × (WhereOpen (S.run calc.old).is_open
         (λ e. AllByRecursion (ItemFits tree.now e.world) (items_of items.now)))) }
 {
-    let mut pieces = Vec::new(alloc);
+    let mut pieces = Vec::new(tree.boxes.allocator());
     for item in items {
-        let width = item_widths(alloc, calc, tree, b, item, found);
+        let width = item_widths(calc, tree, b, item, found);
         add_piece(calc, &mut pieces, Piece { item: *item, width });
     }
     pieces
@@ -116,7 +112,6 @@ fn measure<'a, S: Steady>(
 #[cycle(preferred)]
 /// The preferred widths of a box that holds inline content.
 fn of_inline<S: Steady>(
-    alloc: Global,
     calc: &mut S,
     tree: &BoxTree,
     b: u32,
@@ -131,10 +126,10 @@ fn of_inline<S: Steady>(
     ensures cause { BlamesButMem (S.run calc.old) (S.run calc.new)
         (BoxesFit tree.now (S.run calc.old).is_open × (inside_of tree.now b ≡ inline_content)) }
 {
-    match content(alloc, tree, b) {
+    match content(tree, b) {
         Ok(items) => {
-            let pieces = measure(alloc, calc, tree, b, items.as_slice(), found);
-            inline_widths(alloc, calc, tree, items.as_slice(), pieces.as_slice())
+            let pieces = measure(calc, tree, b, items.as_slice(), found);
+            inline_widths(calc, tree, items.as_slice(), pieces.as_slice())
         }
         Err(_) => {
             calc.stop();
@@ -147,7 +142,6 @@ fn of_inline<S: Steady>(
 #[cycle(preferred)]
 /// The preferred widths of a box that holds blocks.
 fn of_blocks<S: Steady>(
-    alloc: Global,
     calc: &mut S,
     tree: &BoxTree,
     b: u32,
@@ -164,7 +158,7 @@ fn of_blocks<S: Steady>(
 {
     let mut column = no_children();
     for kid in children(tree, b) {
-        let child = outer(alloc, calc, tree, *kid, found);
+        let child = outer(calc, tree, *kid, found);
         column = with_child(calc, column, is_floated(tree, *kid), child);
     }
     whole(calc, column)
@@ -173,7 +167,6 @@ fn of_blocks<S: Steady>(
 #[cycle(preferred)]
 /// The preferred widths of a box of which none were found.
 fn computed<S: Steady>(
-    alloc: Global,
     calc: &mut S,
     tree: &BoxTree,
     b: u32,
@@ -190,15 +183,14 @@ fn computed<S: Steady>(
 {
     match sort_of(tree, b) {
         Sort::Replaced => replaced(calc, tree, b),
-        Sort::Inline => of_inline(alloc, calc, tree, b, found),
-        Sort::Blocks => of_blocks(alloc, calc, tree, b, found),
+        Sort::Inline => of_inline(calc, tree, b, found),
+        Sort::Blocks => of_blocks(calc, tree, b, found),
     }
 }
 
 #[cycle(preferred)]
 /// The preferred widths of what is in a box, and of each box in it that they rest on, kept where they are found.
 pub fn preferred<S: Steady>(
-    alloc: Global,
     calc: &mut S,
     tree: &BoxTree,
     b: u32,
@@ -216,7 +208,7 @@ pub fn preferred<S: Steady>(
     match found_of(found, b) {
         Some(widths) => copy_of(calc, widths),
         None => {
-            let widths = computed(alloc, calc, tree, b, found);
+            let widths = computed(calc, tree, b, found);
             let same = copy_of(calc, &widths);
             keep(found, b, same);
             widths

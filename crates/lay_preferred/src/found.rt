@@ -6,7 +6,6 @@ ghost use Rattle.lay_width.specs.Readings.{preferred_at};
 ghost use Rattle.lay_preferred.specs.Readings.{AreFound};
 
 use crate::places::places;
-use std::alloc::Global;
 use viz_base::{BoxTree, Preferred};
 use viz_calc::Steady;
 
@@ -29,11 +28,12 @@ pub fn copy_of<S: Steady>(calc: &mut S, widths: &Preferred<S::Num>) -> Preferred
 }
 
 /// Nothing found of any box of a tree.
-pub fn nothing_found<S: Steady>(alloc: Global, calc: &mut S, tree: &BoxTree) -> Found<S::Num>
+pub fn nothing_found<S: Steady>(calc: &mut S, tree: &BoxTree) -> Found<S::Num>
     ensures goes { Goes (S.run calc.old) (S.run calc.new) }
     ensures found { AreFound S.at (S.run calc.new) tree.now result.widths.items }
     ensures cause { BlamesButMem (S.run calc.old) (S.run calc.new) ⊤ }
 {
+    let alloc = tree.boxes.allocator();
     match places(alloc, tree.boxes.len()) {
         Ok(widths) => Found { widths },
         Err(_) => {

@@ -23,9 +23,8 @@ pub fn preferred<C: Calc>(calc: &mut C, tree: &BoxTree, b: u32) -> Result<Prefer
     ensures cause { IfErr result (CauseButMem (C.state calc.old) (C.state calc.new)
         (AreSmallBoxes tree.now (C.state calc.old).is_open)) }
 {
-    let alloc = tree.boxes.allocator();
     let mut latch = Latch::new(calc);
-    let mut found = nothing_found(alloc, &mut latch, tree);
-    let widths = engine::preferred(alloc, &mut latch, tree, b, &mut found);
+    let mut found = nothing_found(&mut latch, tree);
+    let widths = engine::preferred(&mut latch, tree, b, &mut found);
     latch.finish(widths)
 }

@@ -28,7 +28,6 @@ use lay_line::items::Item;
 use lay_line::segments::Segments;
 use lay_tree::boxes::{kind, node};
 use lay_tree::contents::holds_inline;
-use std::alloc::Global;
 use viz_base::{BoxTree, Kind, Preferred};
 use viz_calc::Steady;
 
@@ -105,7 +104,6 @@ fn most_of<S: Steady>(calc: &mut S, pieces: &[Piece<Preferred<S::Num>>], marks: 
 
 /// The preferred minimum width of inline content.
 fn least_inline<S: Steady>(
-    alloc: Global,
     calc: &mut S,
     tree: &BoxTree,
     items: &[Item],
@@ -118,7 +116,7 @@ fn least_inline<S: Steady>(
         (parts_at S.at pieces.now (marks_of (may_part tree.now) None None (items_of items.now)) e))
         (sizes_at S.at pieces.now e))) (λ e. IsHalf (leasts (sizes_at S.at pieces.now e))) }
 {
-    match marks(alloc, tree, Parting::Lines, items) {
+    match marks(tree, Parting::Lines, items) {
         Ok(marks) => least_of(calc, pieces, marks.as_slice()),
         Err(_) => {
             calc.stop();
@@ -129,7 +127,6 @@ fn least_inline<S: Steady>(
 
 /// The preferred width of inline content.
 fn most_inline<S: Steady>(
-    alloc: Global,
     calc: &mut S,
     tree: &BoxTree,
     items: &[Item],
@@ -140,7 +137,7 @@ fn most_inline<S: Steady>(
         (parts_at S.at pieces.now (marks_of never None None (items_of items.now)) e)))
         (λ e. IsHalf (mosts (sizes_at S.at pieces.now e))) }
 {
-    match marks(alloc, tree, Parting::Never, items) {
+    match marks(tree, Parting::Never, items) {
         Ok(marks) => most_of(calc, pieces, marks.as_slice()),
         Err(_) => {
             calc.stop();
@@ -151,7 +148,6 @@ fn most_inline<S: Steady>(
 
 /// The preferred widths of inline content whose pieces these are.
 pub fn inline_widths<S: Steady>(
-    alloc: Global,
     calc: &mut S,
     tree: &BoxTree,
     items: &[Item],
@@ -162,8 +158,8 @@ pub fn inline_widths<S: Steady>(
         (λ e. IsHalf (leasts (sizes_at S.at pieces.now e))
         × IsHalf (mosts (sizes_at S.at pieces.now e))) }
 {
-    let least = least_inline(alloc, calc, tree, items, pieces);
-    let most = most_inline(alloc, calc, tree, items, pieces);
+    let least = least_inline(calc, tree, items, pieces);
+    let most = most_inline(calc, tree, items, pieces);
     Preferred { least, most }
 }
 

@@ -9,7 +9,7 @@ ghost use Rattle.lay_tree.specs.Contents.{in_line, own_floats};
 
 use crate::boxes::{children, is_floated, is_inline_level, kind, text};
 use crate::styles::{are_zero, borders, margins, paddings};
-use std::alloc::{AllocError, Global};
+use std::alloc::AllocError;
 use viz_base::{BoxTree, Kind};
 
 /// Whether an inline box has edges at its start, or above or below, that aren't zero.
@@ -137,14 +137,14 @@ fn add_floats(tree: &BoxTree, at: u32, floats: &mut Vec<u32>) -> Result<(), Allo
 }
 
 /// The floats in the inline content of a box, in order: what is in its flow. They are behind it, and boxes of the tree.
-pub fn floats_in(alloc: Global, tree: &BoxTree, at: u32) -> Result<Vec<u32>, AllocError>
+pub fn floats_in(tree: &BoxTree, at: u32) -> Result<Vec<u32>, AllocError>
     requires inline { holds_lines tree.now at ≡ true }
     ensures value { IfOk result (λ floats. floats.items ≡ flow_children tree.now at) }
     ensures each { IfOk result (λ floats. (i : ℕ) → i < length floats.items
         → (at < slice_index_or floats.items i 0)
         × (slice_index_or floats.items i 0 < length tree.now.boxes)) }
 {
-    let mut floats = Vec::new(alloc);
+    let mut floats = Vec::new(tree.boxes.allocator());
     add_floats(tree, at, &mut floats)?;
     Ok(floats)
 }

@@ -26,7 +26,7 @@ pub fn truth_over<C: Calc>(alloc: Global, job: &Job, calc: &mut C) -> Result<boo
     let Some(left) = conclusion(alloc, calc, &job.formula)? else {
         return Ok(true);
     };
-    let rendering = render(alloc, calc, &job.tree)?;
+    let rendering = render(calc, &job.tree)?;
     truth(calc, left, &rendering)
 }
 

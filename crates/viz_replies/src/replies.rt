@@ -25,7 +25,7 @@ fn boxes(alloc: Global, job: &Job, screen: Screen) -> Result<Reply, Mem>
         × (r.output.items ≡ boxes_text job.now (world_in screen job.now.range))) }
 {
     let world = screen.world_in(job.range);
-    let rendering = render_at(alloc, world, &job.tree)?;
+    let rendering = render_at(world, &job.tree)?;
     Ok(Reply {
         answer: Answer::Done,
         output: print(alloc, &rendering)?,

@@ -87,7 +87,7 @@ pub fn violation(alloc: Global, job: &Job, world: World) -> Result<Reply, Mem>
     ensures { IfOk result (λ r. (r.answer ≡ Answer.Violated)
         × (r.output.items ≡ violation_text job.now world)) }
 {
-    let rendering = render_at(alloc, world, &job.tree)?;
+    let rendering = render_at(world, &job.tree)?;
     let reply = violation_by(alloc, job, world, &rendering);
     drop(rendering);
     reply
