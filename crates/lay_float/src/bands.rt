@@ -1,3 +1,4 @@
+//! What floats leave between two heights, and the lowest bottom of those that `clear` looks at (CSS 2.1, 9.5, 9.5.2).
 ghost use Rattle.std.specs.Prelude.{◌≡◌, ⊤, None, IsTrue, is_some, ◌||◌};
 ghost use Rattle.viz_calc.specs.State.{WhereOpen};
 ghost use Rattle.std.specs.List.{list_any};
@@ -14,10 +15,12 @@ use crate::shelves::facing;
 use viz_base::{Band, Clear, Side};
 use viz_calc::{Steady, larger, smaller};
 
-/// The stretch between two vertical edges.
+/// The stretch between two vertical edges, in units of 1/64 px.
 #[derive(Drop)]
 pub struct Room<'a, N> {
+    /// The edge where it begins.
     pub left: &'a N,
+    /// The edge where it ends, which may be left of the other.
     pub right: &'a N,
 }
 

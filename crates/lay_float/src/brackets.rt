@@ -18,8 +18,11 @@ use viz_calc::Steady;
 /// A float that is to stand among earlier ones, in units of 1/64 px.
 #[derive(Drop)]
 pub struct Wanted<'a, N> {
+    /// The earlier floats.
     pub floats: &'a [PlacedFloat<N>],
+    /// The side to which it floats.
     pub side: Side,
+    /// Its outer width.
     pub width: &'a N,
     /// The edges of its containing block.
     pub cb: &'a Band<N>,

@@ -143,6 +143,7 @@ pub fn float_at<S: Steady>(
 /// Where a float stands that is placed behind others.
 #[derive(Drop)]
 pub struct Found<N> {
+    /// The upper left corner of its outer box, in units of 1/64 px.
     pub spot: Spot<N>,
     /// How many of the first floats end above its top.
     pub ended: usize,
@@ -371,7 +372,7 @@ pub fn float_top<S: Steady>(
     }
 }
 
-/// The same float again.
+/// A copy of a float.
 fn copy_float<S: Steady>(calc: &mut S, f: &PlacedFloat<S::Num>) -> PlacedFloat<S::Num>
     ensures { Lays S.run calc.old calc.new (box_at S.at result) (box_at S.at f.now)
         (λ e. AllSmall (S.at f.now.outer.left e ∷ S.at f.now.outer.top e ∷ S.at f.now.outer.right e
@@ -392,7 +393,7 @@ fn copy_float<S: Steady>(calc: &mut S, f: &PlacedFloat<S::Num>) -> PlacedFloat<S
     }
 }
 
-/// The same floats again, of which the copy tells nothing.
+/// A copy of floats, which doesn't tell how many of them have ended.
 pub fn copy<S: Steady>(
     alloc: Global,
     calc: &mut S,

@@ -1,3 +1,4 @@
+//! Of edges that face the content from one side, the one that leaves the least of it; bottoms are compared likewise.
 ghost use Rattle.std.specs.Prelude.{◌≡◌, ⊤, IsTrue, true, is_some};
 ghost use Rattle.viz_calc.specs.State.{WhereOpen};
 ghost use Rattle.viz_calc.specs.World.{Reading};

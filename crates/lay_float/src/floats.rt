@@ -1,3 +1,4 @@
+//! The floats of a block formatting context, in the order in which they were placed (CSS 2.1, 9.5).
 ghost use Rattle.std.specs.Prelude.{◌≡◌, [], None};
 
 use std::alloc::Global;

@@ -1,3 +1,4 @@
+//! The public calls on a list of floats over any `Calc`, each its engine within a `Latch` (CSS 2.1, 9.5).
 ghost use Rattle.std.specs.Prelude.{◌≡◌, ◌∷◌, [], ◌++◌, IsTrue, IfOk, IfErr, OnErr, is_some};
 ghost use Rattle.std.specs.List.{list_any};
 ghost use Rattle.viz_calc.specs.World.{Reading};

@@ -1,3 +1,4 @@
+//! What floats leave at a top for one more, and the highest place for it, from bottom to bottom (CSS 2.1, 9.5.1).
 ghost use Rattle.std.specs.Prelude.{◌≡◌, ⊤, ◌∷◌, [], None, IsTrue, length};
 ghost use Rattle.viz_calc.specs.World.{Reading};
 ghost use Rattle.viz_calc.specs.State.{AllSmall, WhereOpen};

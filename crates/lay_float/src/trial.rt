@@ -31,7 +31,9 @@ pub struct Trial<N> {
 /// A float that comes next.
 #[derive(Drop)]
 pub struct Coming<'a, N> {
+    /// The side to which it floats.
     pub side: Side,
+    /// Below which earlier floats it stands (CSS 2.1, 9.5.2).
     pub clear: Clear,
     /// Its outer size.
     pub size: &'a Extent<N>,
@@ -39,7 +41,7 @@ pub struct Coming<'a, N> {
     pub cb: &'a Band<N>,
 }
 
-/// The same float again.
+/// A copy of a float.
 fn again<S: Steady>(calc: &mut S, f: &PlacedFloat<S::Num>) -> PlacedFloat<S::Num>
     ensures { Lays S.run calc.old calc.new (box_at S.at result) (box_at S.at f.now)
         (λ e. AllSmall (S.at f.now.outer.left e ∷ S.at f.now.outer.top e ∷ S.at f.now.outer.right e
@@ -71,7 +73,7 @@ fn put<S: Steady>(calc: &mut S, floats: &mut Floats<S::Num>, placed: PlacedFloat
     }
 }
 
-/// Whether a float ends below a level.
+/// Whether a float ends below a height.
 fn reaches<S: Steady>(calc: &mut S, f: &PlacedFloat<S::Num>, level: &S::Num) -> bool
     ensures { Lays S.run calc.old calc.new (λ e. result)
         (λ e. int_lt (S.at level.now e) (box_at S.at f.now e).box.bottom) (λ e. ⊤) }
@@ -79,7 +81,7 @@ fn reaches<S: Steady>(calc: &mut S, f: &PlacedFloat<S::Num>, level: &S::Num) -> 
     !calc.le(&f.outer.bottom, level)
 }
 
-/// Puts a float behind others, if it ends below a level.
+/// Puts a float behind others, if it ends below a height.
 fn keep<S: Steady>(calc: &mut S, f: &PlacedFloat<S::Num>, level: &S::Num, out: &mut Floats<S::Num>)
     ensures { LaysButMem S.run calc.old calc.new (floats_at S.at out.new)
         (λ e. floats_at S.at out.old e ++ reaching (S.at level.now e) (box_at S.at f.now e ∷ []))
@@ -92,7 +94,7 @@ fn keep<S: Steady>(calc: &mut S, f: &PlacedFloat<S::Num>, level: &S::Num, out: &
     }
 }
 
-/// The floats that end below a level.
+/// The floats that end below a height.
 fn still_open<S: Steady>(
     alloc: Global,
     calc: &mut S,

@@ -49,7 +49,9 @@ use viz_calc::Steady;
 /// What a way forward starts from.
 #[derive(Drop)]
 pub struct Way<'a, N> {
+    /// The tree, and what is laid out apart.
     pub page: &'a Page<'a, N>,
+    /// Where the run of margins begins, or the edge at which it ends in any case.
     pub base: &'a Base<N>,
     /// The floats of the context.
     pub floats: &'a [PlacedFloat<N>],
@@ -335,6 +337,7 @@ fn try_rest<S: Steady>(
 /// A box with `clear` that is reached.
 #[derive(Drop)]
 pub struct Asked<'a, N> {
+    /// Its place in the tree.
     pub b: u32,
     /// The run of margins before it.
     pub run: &'a Run<N>,
@@ -415,7 +418,9 @@ fn clears_level<S: Steady>(
 /// Whether a box is cleared, with the floats that were tried to tell it.
 #[derive(Drop)]
 pub struct Decision<N> {
+    /// Whether the box is cleared.
     pub cleared: bool,
+    /// What was tried last, if anything was.
     pub tries: Option<Tries<N>>,
 }
 
@@ -613,7 +618,7 @@ pub fn forward<S: Steady>(
 }
 
 #[cycle(onward)]
-/// The same, where floats may have been tried.
+/// Goes forward from a box, where floats may have been tried.
 fn onward<S: Steady>(
     calc: &mut S,
     way: &Way<'_, S::Num>,
@@ -639,7 +644,7 @@ fn onward<S: Steady>(
 }
 
 #[cycle(onward)]
-/// The same of a box that is not cleared.
+/// Goes forward from a box that is not cleared.
 fn inner<S: Steady>(
     calc: &mut S,
     way: &Way<'_, S::Num>,
@@ -682,7 +687,7 @@ fn close<N>(tree: &BoxTree, b: u32, end: End<N>) -> End<N>
 }
 
 #[cycle(onward)]
-/// The same of what is in the flow of a box.
+/// Goes forward through what is in the flow of a box.
 fn content<S: Steady>(
     calc: &mut S,
     way: &Way<'_, S::Num>,
@@ -713,7 +718,7 @@ fn content<S: Steady>(
 
 #[cycle(onward)]
 #[tactic(auto, unfolding(lay_steps::specs::Forward::kid_of))]
-/// The same of boxes behind a box, one after another.
+/// Goes forward through boxes behind a box, one after another.
 fn kids<S: Steady>(
     calc: &mut S,
     way: &Way<'_, S::Num>,
@@ -742,7 +747,7 @@ fn kids<S: Steady>(
 }
 
 #[cycle(onward)]
-/// The same of one: a float waits, and after a box that goes on its bottom margin follows.
+/// Goes forward through one box: a float waits, and after a box that goes on its bottom margin follows.
 fn kid<S: Steady>(
     calc: &mut S,
     way: &Way<'_, S::Num>,

@@ -128,7 +128,7 @@ pub fn context_box<S: Steady>(
 }
 
 #[tactic(auto, unfolding(lay_steps::specs::Flow::block_of))]
-/// Another block after its content.
+/// A block that starts no context, after its content.
 pub fn block_box<S: Steady>(
     calc: &mut S,
     page: &Page<'_, S::Num>,

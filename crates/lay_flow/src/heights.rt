@@ -150,7 +150,8 @@ pub fn context_height<S: Steady>(calc: &mut S, top: &S::Num, end: &Context<S::Nu
     greater(calc, height, best)
 }
 
-/// The auto height of another block, by whether its bottom margin joins its last child's (CSS 2.1, 10.6.3).
+/// The auto height of a block that starts no context, by whether its bottom margin joins its last child's (CSS 2.1,
+/// 10.6.3).
 pub fn block_height<S: Steady>(
     calc: &mut S,
     joins: bool,

@@ -19,7 +19,7 @@ use lay_tree::styles::float_side;
 use viz_base::{BoxTree, Clear, Side, Waiting};
 use viz_calc::Steady;
 
-/// Whether an edge is above a level, if there is one.
+/// Whether an edge is above a height, if there is one.
 pub fn is_above<S: Steady>(calc: &mut S, y: &S::Num, level: &Option<S::Num>) -> bool
     ensures { Lays S.run calc.old calc.new (λ e. result)
         (λ e. option_map_or (int_lt (S.at y.now e)) (option_at S.at level.now e) false) (λ e. ⊤) }
@@ -69,7 +69,7 @@ fn hinders<S: Steady>(calc: &mut S, f: &PlacedFloat<S::Num>, from: &S::Num, to: 
     !calc.le(&f.outer.top, to) || (!calc.le(&f.outer.bottom, to) && calc.le(&f.outer.bottom, from))
 }
 
-/// Whether any float is.
+/// Whether any float is in the way at an edge that isn't at another one.
 fn any_hinders<S: Steady>(
     calc: &mut S,
     floats: &[PlacedFloat<S::Num>],

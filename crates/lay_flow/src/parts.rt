@@ -9,6 +9,7 @@ use viz_base::{BoxTree, Extent, List, Placed, Waiting};
 pub struct Cleared<N> {
     /// Its place in the tree.
     pub at: u32,
+    /// Its border edge.
     pub edge: N,
 }
 
@@ -25,6 +26,7 @@ pub enum Standing<N> {
 /// How far the flow of a block formatting context has come (CSS 2.1, 9.4.1).
 #[derive(Drop)]
 pub struct Context<N> {
+    /// Where the next child of the box that is open stands.
     pub standing: Standing<N>,
     /// Its floats so far.
     pub floats: Floats<N>,
@@ -80,6 +82,7 @@ pub struct Tries<N> {
     pub y: N,
     /// How many of the floats that wait were tried: the first ones.
     pub count: usize,
+    /// Where they would stand.
     pub trial: Trial<N>,
 }
 
@@ -99,7 +102,7 @@ pub struct Going<N> {
 pub struct Reached<N> {
     /// Its border top.
     pub top: N,
-    /// Whether it is the cleared one.
+    /// Whether it is itself the box that is cleared.
     pub clears: bool,
     /// The cleared box of its own lead.
     pub cleared: Option<Cleared<N>>,
@@ -119,7 +122,8 @@ pub struct Laid<N> {
 /// A box in flow that is reached, and the run before it with its lead joined.
 #[derive(Drop)]
 pub struct Met<N> {
+    /// Where it stands.
     pub reached: Reached<N>,
-    /// At the top of its container no margins.
+    /// The run; at the top of its container no margins.
     pub own: Run<N>,
 }

@@ -217,7 +217,7 @@ pub fn below<S: Steady>(calc: &mut S, edge: &S::Num) -> Standing<S::Num>
     }
 }
 
-/// Where boxes stand again.
+/// A copy of where boxes stand.
 pub fn copy_standing<S: Steady>(calc: &mut S, standing: &Standing<S::Num>) -> Standing<S::Num>
     ensures { Lays S.run calc.old calc.new (standing_at S.at result) (standing_at S.at standing.now)
         (λ e. IsStandingLow (standing_at S.at standing.now e)) }

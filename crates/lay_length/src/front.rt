@@ -1,4 +1,5 @@
-//! The public calls over any `Calc`, each its engine within a `Latch`.
+//! The public calls, each by a calc that may halt, its engine within a `Latch`. Outside cases alone ask them: the
+//! layout goes by the engines.
 ghost use Rattle.std.specs.Prelude.{◌≤◌, length, IfOk, IfErr};
 ghost use Rattle.std.specs.Str.{chars};
 ghost use Rattle.viz_calc.specs.State.{Stands, Grows, AreOpen, Fits, Cause};

@@ -1,3 +1,4 @@
+//! How large font sizes are on a small page (CSS 2.1, 15.7).
 ghost use Rattle.std.specs.Prelude.{◌≤◌, ◌^◌, ℕ, unsigned_abs, IsTrue};
 ghost use Rattle.viz_base.specs.Trees.{has_box};
 ghost use Rattle.viz_base.specs.declared.worlds.World.{World};

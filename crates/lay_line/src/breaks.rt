@@ -237,7 +237,7 @@ fn one_less(left: Option<usize>) -> Option<usize>
     }
 }
 
-/// Whether it is 0.
+/// Whether there is a number and it is 0.
 fn is_here(left: Option<usize>) -> bool
     ensures { result ≡ is_at left }
 {

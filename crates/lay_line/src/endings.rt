@@ -47,14 +47,18 @@ pub struct SoFar<N> {
     pub guess: Guess,
 }
 
-/// The same, with how many floats there are in place of them.
+/// What lines leave to the next one, with the number of floats in place of the floats, in units of 1/64 px.
 #[derive(Drop)]
 pub struct Begun<N> {
+    /// Where it begins.
     pub y: N,
+    /// The highest top that its floats may have.
     pub least: N,
-    /// How many there are.
+    /// How many floats the block formatting context has.
     pub floats: usize,
+    /// The inline boxes that are open, outermost first.
     pub opened: Vec<u32>,
+    /// The last line's baseline.
     pub baseline: Option<N>,
 }
 

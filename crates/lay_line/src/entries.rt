@@ -23,7 +23,7 @@ use crate::places::ItemPlace;
 use viz_base::{Entry, List, Spot};
 use viz_calc::Steady;
 
-/// An entry more.
+/// Adds an entry.
 pub fn add_entry<S: Steady>(calc: &mut S, entries: &mut List<Entry<S::Num>>, entry: Entry<S::Num>)
     ensures { LaysButMem S.run calc.old calc.new (entries_at S.at entries.new)
         (λ e. entries_at S.at entries.old e ++ entry_at S.at entry e ∷ []) (λ e. ⊤) }
@@ -36,9 +36,13 @@ pub fn add_entry<S: Steady>(calc: &mut S, entries: &mut List<Entry<S::Num>>, ent
 /// A place on a line, between those before and after it, and where the floats stand that are left.
 #[derive(Drop)]
 pub struct Here<'p, 'a, N> {
+    /// The one before it, if any.
     pub before: Option<&'p ItemPlace<'a, N>>,
+    /// The place itself.
     pub place: &'p ItemPlace<'a, N>,
+    /// Those after it, in order.
     pub after: &'p [ItemPlace<'a, N>],
+    /// The floats that are left: the places of their boxes in the tree, and where they stand, in units of 1/64 px.
     pub spots: &'p [(u32, Spot<N>)],
 }
 

@@ -15,7 +15,7 @@ pub struct LineExtent<N> {
     pub below: N,
 }
 
-/// As far as both.
+/// How far two extents reach together.
 pub fn with_extent<S: Steady>(
     calc: &mut S,
     extent: LineExtent<S::Num>,
@@ -29,7 +29,7 @@ pub fn with_extent<S: Steady>(
     LineExtent { above, below }
 }
 
-/// From its top to its bottom.
+/// The height of an extent, from its top to its bottom.
 pub fn height<S: Steady>(calc: &mut S, extent: &LineExtent<S::Num>) -> S::Num
     ensures { Lays S.run calc.old calc.new (S.at result)
         (λ e. height_of_extent (line_extent_at S.at extent.now e))

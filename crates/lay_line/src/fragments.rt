@@ -32,10 +32,13 @@ use viz_calc::Steady;
 /// A line with its items in their places, in units of 1/64 px.
 #[derive(Drop)]
 pub struct SetLine<'p, 'a, N> {
+    /// How far down its baseline is.
     pub baseline: N,
-    /// The left and the right edge of its content.
+    /// The left edge of its content.
     pub left: N,
+    /// The right edge of its content.
     pub right: N,
+    /// Its items that stay, in order.
     pub places: &'p [ItemPlace<'a, N>],
     /// Where its floats stand, in their order.
     pub spots: &'p [(u32, Spot<N>)],

@@ -1,4 +1,5 @@
-//! The public call over any `Calc`, its engine within a `Latch`.
+//! The public call, by a calc that may halt, its engine within a `Latch`. Outside cases alone ask it: the layout goes
+//! by the engine.
 ghost use Rattle.std.specs.Prelude.{◌≡◌, ◌<◌, [], length, IsTrue, IfOk, IfErr, OnErr};
 ghost use Rattle.viz_calc.specs.World.{Reading};
 ghost use Rattle.viz_calc.specs.State.{Grows, AreOpen, CauseButMem};

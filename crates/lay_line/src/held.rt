@@ -30,7 +30,7 @@ pub struct Held<N> {
     pub begun: bool,
 }
 
-/// Nothing.
+/// What a line holds before its first item.
 pub fn nothing<S: Steady>(calc: &mut S) -> Held<S::Num>
     ensures { Lays S.run calc.old calc.new (held_at S.at result) (λ e. nothing_held)
         (λ e. AllSmall (pos 0 ∷ [])) }
@@ -92,7 +92,7 @@ fn with_other<S: Steady>(calc: &mut S, held: Held<S::Num>, width: &S::Num) -> He
     }
 }
 
-/// With an item more, which takes so much.
+/// What a line holds with an item more, which takes so much.
 pub fn with_item<S: Steady>(
     calc: &mut S,
     held: Held<S::Num>,
@@ -110,7 +110,7 @@ pub fn with_item<S: Steady>(
     }
 }
 
-/// With some items more.
+/// What a line holds with some items more.
 pub fn with_pieces<S: Steady>(
     calc: &mut S,
     start: Held<S::Num>,

@@ -11,7 +11,7 @@ use viz_base::Word;
 pub enum Item<'a> {
     /// The start of an inline box.
     Start(u32),
-    /// Its end.
+    /// The end of an inline box.
     Finish(u32),
     /// A word of a text, as the tree keeps it.
     Word(u32, &'a Word),
@@ -21,10 +21,11 @@ pub enum Item<'a> {
     Atomic(u32),
     /// A forced line break.
     Forced(u32),
+    /// A float.
     Float(u32),
 }
 
-/// Whether it is a word, a space, an atomic box or a forced break.
+/// Whether an item is a word, a space, an atomic box or a forced break.
 pub fn is_thing(item: &Item) -> bool
     ensures { result ≡ is_thing (item_of item.now) }
 {
@@ -34,28 +35,28 @@ pub fn is_thing(item: &Item) -> bool
     }
 }
 
-/// Whether it is the end of an inline box.
+/// Whether an item is the end of an inline box.
 pub fn is_end(item: &Item) -> bool
     ensures { result ≡ is_end (item_of item.now) }
 {
     matches!(item, Item::Finish(_))
 }
 
-/// Whether it is a space.
+/// Whether an item is a space.
 pub fn is_space(item: &Item) -> bool
     ensures { result ≡ is_space (item_of item.now) }
 {
     matches!(item, Item::Space(_))
 }
 
-/// Whether it is a forced break.
+/// Whether an item is a forced break.
 pub fn is_forced(item: &Item) -> bool
     ensures { result ≡ is_forced (item_of item.now) }
 {
     matches!(item, Item::Forced(_))
 }
 
-/// Whether it is a word or an atomic box.
+/// Whether an item is a word or an atomic box.
 pub fn is_solid(item: &Item) -> bool
     ensures { result ≡ is_solid_of (item_of item.now) }
 {

@@ -1,3 +1,4 @@
+//! Lines, pieces and places by steps are those of the definitions (CSS 2.1, 9.4.2, 16.6).
 ghost use Rattle.std.specs.Prelude.{◌≡◌, ℤ, List, None};
 ghost use Rattle.viz_base.specs.declared.trees.BoxTree.{BoxTree};
 ghost use Rattle.layout_semantics.specs.LineFilling.{item_width, width_held};

@@ -93,7 +93,7 @@ pub(crate) fn text_in<N>(pieces: &[Piece<N>]) -> u64 {
     size
 }
 
-/// Whether it is a word or a space.
+/// Whether an item is a word or a space.
 fn is_text(item: &Item) -> bool
     ensures { result ≡ is_text_of (item_of item.now) }
 {
@@ -134,6 +134,7 @@ fn is_plain<N>(pieces: &[Piece<N>]) -> bool
 pub struct Leap<'p, 'a, N> {
     /// All their pieces.
     pub first: &'p [Piece<'a, N>],
+    /// The segments behind them.
     pub rest: Segments<'p, 'a, N>,
     /// How many they are.
     pub count: usize,

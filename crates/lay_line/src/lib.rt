@@ -1,4 +1,5 @@
-//! Lines of inline content: the steps of one pass over it (CSS 2.1, 9.4.2, 10.8), and the code.
+//! Lines of inline content: the steps of one pass over it (CSS 2.1, 9.4.2, 10.8), and the code. Words are those that
+//! the tree keeps.
 #![tactic(auto)]
 
 ghost use Rattle.std.specs.Prelude.{◌≡◌};

@@ -145,6 +145,7 @@ pub struct Content<N> {
     pub baseline: N,
     /// Its left edge.
     pub left: N,
+    /// Its width.
     pub width: N,
     /// Where the line's floats stand.
     pub spots: Vec<(u32, Spot<N>)>,

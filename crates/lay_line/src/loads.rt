@@ -245,7 +245,7 @@ pub fn ahead<N>(tree: &BoxTree, pieces: &[Piece<N>]) -> usize
 /// What a line holds so far, in units of 1/64 px.
 #[derive(Drop)]
 pub struct Load<N> {
-    /// Its width.
+    /// Its width, and that of the spaces at its end.
     pub held: Held<N>,
     /// Whether a forced break is among it.
     pub is_ended: bool,
@@ -264,6 +264,7 @@ pub struct Load<N> {
 /// A segment that a line takes.
 #[derive(Drop)]
 pub struct Taken<'p, 'a, N> {
+    /// Its pieces.
     pub part: &'p [Piece<'a, N>],
     /// The floats that are met at its end.
     pub floats: &'p [u32],
@@ -272,7 +273,7 @@ pub struct Taken<'p, 'a, N> {
 }
 
 #[tactic(auto, unfolding(crate::specs::Contexts::context_at, crate::specs::steps::Loading::loaded))]
-/// With one segment more.
+/// What a line holds with one segment more.
 pub fn with_segment<S: Steady>(
     calc: &mut S,
     container: &Container<'_, S::Num>,
@@ -315,7 +316,7 @@ pub fn with_segment<S: Steady>(
     }
 }
 
-/// The same as is held.
+/// A copy of what a line holds.
 fn copy_held<S: Steady>(calc: &mut S, held: &Held<S::Num>) -> Held<S::Num>
     ensures { Lays S.run calc.old calc.new (held_at S.at result) (held_at S.at held.now)
         (λ e. AllSmall (S.at held.now.width e ∷ S.at held.now.spaces e ∷ [])) }
@@ -359,7 +360,9 @@ fn takes_more<S: Steady>(
 /// A line that is full, and the segments that are left.
 #[derive(Drop)]
 pub struct Loaded<'p, 'a, N> {
+    /// What the line holds.
     pub load: Load<N>,
+    /// The segments behind it.
     pub rest: Segments<'p, 'a, N>,
 }
 

@@ -38,7 +38,7 @@ fn fewer(left: usize) -> usize
     left.saturating_sub(1)
 }
 
-/// Whether any is left.
+/// Whether any item is left.
 fn is_some_left(left: usize) -> bool
     ensures { result ≡ is_left left }
 {

@@ -7,7 +7,9 @@ use crate::held::Piece;
 /// Pieces, and whether a segment ends behind each.
 #[derive(Drop)]
 pub struct Segments<'p, 'a, N> {
+    /// The pieces, in order.
     pub pieces: &'p [Piece<'a, N>],
+    /// For each piece whether a segment ends behind it.
     pub marks: &'p [bool],
 }
 
@@ -16,7 +18,9 @@ pub struct Segments<'p, 'a, N> {
 pub struct Cut<'p, 'a, N> {
     /// All that was cut.
     pub pieces: &'p [Piece<'a, N>],
+    /// The pieces of the segment.
     pub first: &'p [Piece<'a, N>],
+    /// The segments behind it.
     pub rest: Segments<'p, 'a, N>,
 }
 

@@ -135,7 +135,7 @@ pub fn shift<S: Steady>(
 }
 
 #[tactic(auto, unfolding(crate::specs::Contexts::context_at, crate::specs::steps::Words::inline_raised, crate::specs::Fits::InlineShiftFits))]
-/// The same of an inline box.
+/// How far the baseline of an inline box is above that of its line.
 pub fn inline_shift<S: Steady>(calc: &mut S, container: &Container<'_, S::Num>, at: u32) -> S::Num
     ensures { Lays S.run calc.old calc.new (S.at result)
         (λ e. inline_raised (context_at S.at container.now e) at)

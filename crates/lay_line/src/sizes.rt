@@ -27,7 +27,7 @@ use lay_tree::styles::{borders, margins, paddings};
 use viz_base::{Band, BoxTree, Length};
 use viz_calc::Steady;
 
-/// From edge to edge.
+/// The width of a band, from edge to edge.
 pub fn band_width<S: Steady>(calc: &mut S, band: &Band<S::Num>) -> S::Num
     ensures { Lays S.run calc.old calc.new (S.at result) (λ e. width_of (band_at S.at band.now e))
         (λ e. AllSmall (width_of (band_at S.at band.now e) ∷ [])) }

@@ -17,6 +17,7 @@ use viz_calc::{Steady, lesser};
 /// A place that is wanted for a line, in units of 1/64 px.
 #[derive(Drop)]
 pub struct Wanted<'w, 'a, N> {
+    /// Whose line it is.
     pub container: &'w Container<'a, N>,
     /// The floats beside which it is.
     pub floats: &'w [PlacedFloat<N>],

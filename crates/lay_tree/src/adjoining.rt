@@ -53,7 +53,8 @@ pub fn is_open_above(tree: &BoxTree, at: u32) -> bool
 }
 
 #[tactic(auto, unfolding(layout_semantics::specs::FlowBoxes::is_open_below))]
-/// The same of its bottom margin.
+/// Whether no border, no padding and no context of its own part a box's bottom margin from those in it (CSS 2.1,
+/// 8.3.1).
 pub fn is_open_below(tree: &BoxTree, at: u32) -> bool
     ensures { result ≡ open_below tree.now at }
 {

@@ -32,7 +32,7 @@ pub fn starts_with_edges(tree: &BoxTree, at: u32) -> bool
     ])
 }
 
-/// Whether it has such edges at its end, or above or below.
+/// Whether an inline box has edges at its end, or above or below, that aren't zero.
 pub fn ends_with_edges(tree: &BoxTree, at: u32) -> bool
     ensures { result ≡ makes_line tree.now (finish at) }
 {

@@ -155,7 +155,7 @@ pub fn is_zero(length: &Length) -> bool
     }
 }
 
-/// Whether all lengths have.
+/// Whether all lengths have a computed value of zero; an automatic margin counts as one.
 pub fn are_zero(lengths: &[Length]) -> bool
     ensures { result ≡ all_zero lengths.now }
 {

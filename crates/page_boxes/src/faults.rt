@@ -1,3 +1,4 @@
+//! Why a page has no box tree.
 use std::alloc::{AllocError, AllocFailed};
 use thiserror::Error;
 use viz_base::Mem;
@@ -5,6 +6,7 @@ use viz_base::Mem;
 /// Why a page has no box tree.
 #[derive(Clone, Copy, Debug, Error)]
 pub enum BoxFault {
+    /// Want of memory, or a page of 2^32 nodes and more.
     #[error("out of memory")]
     Mem,
     /// The node of a block-level box in normal flow that is directly in an inline box.

@@ -1,3 +1,4 @@
+//! When the boxes of a page are a box tree.
 ghost use Rattle.std.specs.Prelude.{◌≡◌, []};
 ghost use Rattle.viz_base.specs.Trees.{IsBoxTree};
 ghost use Rattle.layout_semantics.specs.BoxTrees.{page_boxes, page_parts, tree_parents, tree_styles};

@@ -1,3 +1,4 @@
+//! What a node adds to the box tree, before it is built (CSS 2.1, 9.2, 9.5).
 use viz_base::{Kind, List};
 
 /// How a box takes part in layout (CSS 2.1, 9.2 and 9.5).
@@ -5,6 +6,7 @@ use viz_base::{Kind, List};
 pub enum Level {
     /// Block-level in normal flow.
     Block,
+    /// A float.
     Floated,
     /// Inline-level.
     Inline,
@@ -13,6 +15,7 @@ pub enum Level {
 /// The box of a node.
 #[derive(Drop)]
 pub struct Part {
+    /// The number of the node.
     pub node: u32,
     /// The element that it is in.
     pub parent: Option<u32>,

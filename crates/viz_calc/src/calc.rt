@@ -1,3 +1,4 @@
+//! Arithmetic over the readings that are open, and why it may give up.
 ghost use Rattle.std.specs.Prelude.{◌≡◌, ◌≤◌, ℕ, ◌*◌, ℤ, Bool, ⊤, pos, ◌+ℤ◌, ◌-ℤ◌, ◌*ℤ◌, IfOk, IfErr, [], ◌∷◌};
 ghost use Rattle.std.specs.Int.{int_div_euclid};
 ghost use Rattle.std.specs.Int.RustNames.{int_le};
@@ -170,7 +171,7 @@ pub trait Calc {
             (λ e. r ≡ int_le (at a.now e) (at b.now e))) }
         ensures cause { IfErr result (Cause (state self.old) (state self.new) ⊤) };
 
-    /// The same as `le`, but what earlier answers tell is not asked again.
+    /// Whether `a` is at most `b`, as `le` answers it, but what earlier answers tell is not asked again.
     fn at_most(&mut self, a: &Self::Num, b: &Self::Num) -> Result<bool, Halt>
         ensures grows { Grows (state self.old) (state self.new) }
         ensures value { IfOk result (λ r. WhereOpen (state self.new).is_open

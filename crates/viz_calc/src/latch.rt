@@ -1,3 +1,4 @@
+//! A calc that may halt, lent as arithmetic that goes on.
 ghost use Rattle.std.specs.Prelude.{◌≡◌, ◌≤◌, ℕ, ◌*◌, ℤ, ⊤, pos, ◌+ℤ◌, ◌-ℤ◌, ◌*ℤ◌, IsTrue, IfOk, IfErr, [], ◌∷◌, Some, None};
 ghost use Rattle.viz_calc.specs.State.{State, Grows, Cause, is_told};
 ghost use Rattle.viz_calc.specs.Run.{run_of};

@@ -1,3 +1,4 @@
+//! The calc of one world, whose numbers are as they are, and its laws.
 ghost use Rattle.std.specs.Prelude.{◌≡◌, ◌*◌, ◌^◌, ◌≤◌, ◌+ℤ◌, ◌-ℤ◌, ◌*ℤ◌, pos, Ok, false, ⊤, IsTrue, IfOk, IfErr, [], ◌∷◌};
 ghost use Rattle.std.specs.Int.{int_div_euclid};
 ghost use Rattle.std.specs.Int.RustNames.{int_le};

@@ -1,3 +1,4 @@
+//! Arithmetic that goes on after a halt, so that the layout has no error to hand up.
 ghost use Rattle.std.specs.Prelude.{◌≡◌, false, ◌≤◌, ℕ, ◌*◌, ℤ, ⊤, pos, ◌+ℤ◌, ◌-ℤ◌, ◌*ℤ◌, [], ◌∷◌, Some, None, is_some};
 ghost use Rattle.viz_calc.specs.State.{WhereOpen};
 ghost use Rattle.std.specs.Int.{int_div_euclid};
