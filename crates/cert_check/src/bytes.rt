@@ -1,3 +1,4 @@
+//! Certificates in bytes, judged node by node as they are read: none is ever whole in memory.
 ghost use Rattle.std.specs.Prelude.{◌≡◌, ◌↔◌, ◌+◌, ◌<◌, ◌≤◌, ◌^◌, [], length, IfErr, IfOk, IsTrue};
 ghost use Rattle.cert_text.specs.Pieces.{HasGiven, bytes_of};
 ghost use Rattle.cert_text.specs.Texts.{CertText};
@@ -21,7 +22,7 @@ use viz_base::{Job, Mem};
 pub enum BytesVerdict {
     /// The bytes spell a certificate that is right for the job, and the job holds.
     Accepted,
-    /// They spell a certificate that is rejected.
+    /// They spell a certificate that is rejected, for this cause.
     Rejected(Reject),
     /// They spell none. The number is the length of their longest prefix that is a prefix of some certificate's text.
     Grammar(u64),
@@ -157,6 +158,9 @@ pub fn check_front(alloc: Global, job: &Job, bytes: &[u8]) -> Result<Front, Mem>
 
 /// The verdict on the certificate that the bytes spell, for a job, and whether they spell one: as `check_front` has
 /// it, where nothing stands behind. All else is as `check` has it. The only fault is want of memory.
+///
+/// This is the claim on a text as a whole. No program calls it: the certificates of a file's parts stand one behind
+/// another, so each of them is read by `check_front`.
 pub fn check_bytes(alloc: Global, job: &Job, bytes: &[u8]) -> Result<BytesVerdict, Mem>
     requires few { length bytes.now + axis_count job.now.form < 2 ^ 32 }
     ensures verdict { IfOk result (λ verdict. IsBytesVerdict job.now bytes.now verdict) }

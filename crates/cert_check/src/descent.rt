@@ -1,3 +1,4 @@
+//! The way from the root of a certificate down to a node, with the facts and floors that it gives.
 ghost use Rattle.std.specs.Prelude.{◌≡◌, ◌<◌, ◌^◌, [], IfOk, IsTrue, OnOk};
 ghost use Rattle.lin_proof.specs.Form.{IsCanonical, denied, form_fits};
 ghost use Rattle.cert_semantics.specs.Facts.{facts};
@@ -64,14 +65,14 @@ impl<'a> Descent<'a> {
         })
     }
 
-    /// The job.
+    /// The job of the certificate.
     pub fn job(&self) -> &'a Job
         ensures { result.now ≡ self.now.job.now }
     {
         self.job
     }
 
-    /// The facts and floors of the path.
+    /// The facts and floors of the path down to the node.
     pub fn path(&self) -> &Path
         ensures facts { result.now.facts ≡ facts self.now.job.now.range (path_at self.now) }
         ensures origin { result.now.origin
@@ -81,14 +82,14 @@ impl<'a> Descent<'a> {
         &self.path
     }
 
-    /// The defs, splits and lemmas above, from the root down.
+    /// The defs, splits and lemmas above the node, from the root down.
     pub fn above(&self) -> &[Above]
         ensures { result.now ≡ self.now.above }
     {
         self.above.as_slice()
     }
 
-    /// How many variables are declared.
+    /// How many variables are declared at the node: those of the axes, and one for each def above.
     pub fn variables(&self) -> u32
         requires { variables (path_at self.now) < 2 ^ 32 }
         ensures { result ≡ variables (path_at self.now) }

@@ -1,3 +1,4 @@
+//! The verdict on a certificate that is whole in memory.
 ghost use Rattle.std.specs.Prelude.{◌≡◌, ◌↔◌, ◌+◌, ◌<◌, ◌^◌, ℕ, List, length, IsTrue, IfOk};
 ghost use Rattle.cert_text.specs.Texts.{CertText};
 ghost use Rattle.cert_semantics.specs.Axes.{axis_count};

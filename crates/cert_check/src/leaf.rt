@@ -1,3 +1,4 @@
+//! The verdict on a leaf: its page is laid out once, over all worlds of its path together.
 ghost use Rattle.std.specs.Prelude.{◌≡◌, ◌<◌, true, Ok, Some, None, IsTrue, IfOk, IfErr, IfSome, OnOk};
 ghost use Rattle.std.specs.Bool.{Decides};
 ghost use Rattle.viz_base.specs.Numbers.{Rose};

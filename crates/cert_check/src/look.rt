@@ -1,3 +1,4 @@
+//! The first world of a rectangle that passes a test, whatever the test is.
 ghost use Rattle.std.specs.Prelude.{◌≡◌, ◌<◌, ◌≤◌, ◌^◌, Bool, IfOk};
 ghost use Rattle.viz_base.specs.declared.worlds.World.{World};
 ghost use Rattle.viz_base.specs.declared.worlds.Rect.{Rect};

@@ -1,3 +1,4 @@
+//! What variables and rows are at one world: by them the world is on a path or isn't.
 ghost use Rattle.std.specs.Prelude.{◌≡◌, map, pos, IfOk, IsTrue};
 ghost use Rattle.std.specs.Option.{option_map};
 ghost use Rattle.viz_base.specs.Worlds.{along};

@@ -1,3 +1,4 @@
+//! The worlds for which a grid is rejected: a number of its path is outside `i128` there, or the formula is false.
 ghost use Rattle.std.specs.Prelude.{◌≡◌, IfOk, IsTrue};
 ghost use Rattle.viz_base.specs.Rectangles.{IsWithin};
 ghost use Rattle.cert_check.specs.steps.Worlds.{first_world};

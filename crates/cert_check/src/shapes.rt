@@ -1,3 +1,4 @@
+//! Whether a def, a split or a lemma is well shaped on its path, and whether a row's denial is in `i128`.
 ghost use Rattle.std.specs.Prelude.{◌≡◌, ◌<◌, ◌^◌, ◌&&◌, pos, IfOk};
 ghost use Rattle.std.specs.Int.Signed.{lt_z};
 ghost use Rattle.std.specs.List.{list_all};
@@ -26,7 +27,7 @@ fn are_remainders(by: i128, terms: &[(u32, i128)]) -> bool
     terms.iter().all(|term| is_remainder(by, term.1))
 }
 
-/// Whether each number of a row is, its constant among them.
+/// Whether each number of a row, its constant among them, is from 0 to `by` less 1.
 fn has_remainders(by: i128, row: &Row) -> bool
     ensures { result ≡ has_remainders by row.now }
 {

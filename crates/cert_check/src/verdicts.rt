@@ -1,3 +1,4 @@
+//! What is found of a certificate, and for which causes it is rejected.
 use lin_proof::Row;
 use thiserror::Error;
 use viz_base::World;
@@ -7,6 +8,7 @@ use viz_base::World;
 pub enum Verdict {
     /// The certificate is right for the job, and the job holds.
     Accepted,
+    /// It is rejected, for this cause.
     Rejected(Reject),
 }
 

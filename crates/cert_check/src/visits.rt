@@ -1,3 +1,4 @@
+//! Judges the nodes of a certificate as they are read, and holds only the way down to the one that is due.
 ghost use Rattle.std.specs.Prelude.{◌≡◌, ◌+◌, ◌<◌, ◌^◌, [], ◌∷◌, ◌++◌, length, Some, IfOk, OnOk};
 ghost use Rattle.viz_base.specs.declared.jobs.Job.{Job};
 ghost use Rattle.cert_text.specs.declared.certificate.Piece.TheVariants as of_piece;
@@ -60,7 +61,9 @@ fn hold(pending: &mut Vec<Pending>, split: Pending) -> Result<(), AllocError>
 #[derive(Drop)]
 pub struct Visits<'a> {
     descent: Descent<'a>,
+    /// The part of the node that is due, as the unit splits above it cut the rectangle; none where they left no world.
     part: Option<Rect>,
+    /// The splits above it whose second part is still to come, from the root down.
     pending: Vec<Pending>,
 }
 

@@ -1,3 +1,4 @@
+//! Judges each node of a certificate by its kind, and walks through those of one that is whole in memory.
 ghost use Rattle.std.specs.Prelude.{◌≡◌, ◌+◌, ◌<◌, ◌≤◌, ◌^◌, [], ◌∷◌, ◌++◌, IsTrue, IfOk, IfSome, OnOk};
 ghost use Rattle.viz_base.specs.declared.jobs.Job.{Job};
 ghost use Rattle.std.specs.Option.{option_and_then};
@@ -32,10 +33,12 @@ use std::alloc::{AllocError, Global};
 use sym_calc::Sym;
 use viz_base::{Boxed, Child, Mem, Rect, part_of, world_count};
 
-/// Why the walk stops. It lies in a box, so that a level of the walk takes little of the stack.
+/// Why the walk stops.
 #[derive(Drop)]
 pub enum Stop {
+    /// Want of memory, and nothing else.
     Mem,
+    /// A node is rejected, for this cause. It lies in a box, so that a level of the walk takes little of the stack.
     Rejected(Boxed<Reject>),
 }
 

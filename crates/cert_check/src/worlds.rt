@@ -1,3 +1,4 @@
+//! The truth of a job's formula at one world, and the first world of a rectangle at which it is false.
 ghost use Rattle.std.specs.Prelude.{◌≡◌, IsTrue, IfOk, MatchOption};
 ghost use Rattle.viz_base.specs.Formulas.{has_small_terms};
 ghost use Rattle.viz_base.specs.Worlds.{IsInRange};

@@ -29,6 +29,7 @@ fn with_digest(cert: Cert, digest: &[u8; 32]) -> Cert
 #[derive(Drop)]
 pub struct Front {
     pub cert: Cert,
+    /// How many bytes its text has.
     pub length: usize,
 }
 

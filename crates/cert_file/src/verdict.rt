@@ -1,3 +1,4 @@
+//! What is found of the bytes of a certificate file.
 use cert_check::Reject;
 
 /// What was found of the bytes of a certificate file.

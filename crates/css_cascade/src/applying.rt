@@ -1,3 +1,4 @@
+//! What applies to an element, of rulesets and of its style attribute, and which of it wins.
 ghost use Rattle.std.specs.Prelude.{◌≡◌, map, length, IfOk, List as Seq, codes};
 ghost use Rattle.std.specs.Prelude.{option_map};
 ghost use Rattle.std.specs.List.{AllByRecursion};

@@ -1,3 +1,4 @@
+//! What the pseudo-elements of nodes set, and which value of theirs is refused by name.
 ghost use Rattle.std.specs.Prelude.{◌≡◌, map, option_map, slice_get, IfOk};
 ghost use Rattle.std.specs.List.{AllByRecursion, list_any};
 ghost use Rattle.css_semantics.specs.PseudoCascade.{asks_text, first_unsupported, is_asked, is_text_or_refused, settings_beside};
@@ -20,13 +21,16 @@ use viz_base::{Body, List, Mem, Node, Page, Prop, Setting, Source, Value};
 #[derive(Clone, Copy)]
 pub struct Refused {
     pub prop: Prop,
+    /// Where the value stands.
     pub source: Source,
 }
 
 /// For each node of a page what its pseudo-element sets, and the value of it that is refused if the element is shown.
 #[derive(Drop)]
 pub struct Beside {
+    /// What the pseudo-element of each node sets.
     pub winners: List<List<Setting>>,
+    /// For each node the value of its pseudo-element that is refused if the node is shown, if there is one.
     pub refused: Vec<Option<Refused>>,
 }
 

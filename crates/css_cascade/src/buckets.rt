@@ -1,3 +1,4 @@
+//! Selectors in buckets by a word that they ask for, so that few are tried at each node.
 ghost use Rattle.std.specs.Prelude.{◌≡◌, ◌<◌, ◌++◌, [], ◌∷◌, List as Seq, map, length, IfOk, IfSome, IsTrue, OnOk};
 ghost use Rattle.std.specs.List.{Contains};
 ghost use Rattle.viz_base.specs.declared.nodes.Node.{Node};
@@ -18,7 +19,9 @@ use viz_base::{Compound, Join, List, Mem, Page, Test, Text};
 /// A selector of the ruleset of this number.
 #[derive(Clone, Copy)]
 pub struct Candidate<'a> {
+    /// The number of the ruleset.
     pub rules: usize,
+    /// The selector, with its specificity.
     pub ranked: &'a Ranked,
 }
 
@@ -27,9 +30,11 @@ pub struct Candidate<'a> {
 /// match is tried in vain.
 #[derive(Drop)]
 pub struct Buckets<'a> {
+    /// The selectors, in the order of their rulesets.
     pub candidates: Vec<Candidate<'a>>,
+    /// The numbers of the selectors in each bucket.
     pub named: Vec<List<usize>>,
-    /// Those of the selectors that ask for no such word.
+    /// The numbers of the selectors that ask for no such word.
     pub others: List<usize>,
 }
 

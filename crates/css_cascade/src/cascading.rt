@@ -1,3 +1,4 @@
+//! What wins at each node of a page, or why the page is refused.
 ghost use Rattle.std.specs.Prelude.{◌≡◌, [], map, slice_get, IfErr, IfOk, IfSome, Some, length};
 ghost use Rattle.std.specs.List.{AllByRecursion};
 ghost use Rattle.css_semantics.specs.Cascade.{ComesTo, Goes, IsCascade};

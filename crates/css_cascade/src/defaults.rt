@@ -1,3 +1,4 @@
+//! The text of the default style sheet.
 ghost use Rattle.std.specs.Prelude.{◌≡◌};
 ghost use Rattle.css_semantics.specs.DefaultSheet.{default_text};
 

@@ -1,3 +1,4 @@
+//! Why a page has no cascade.
 use std::alloc::{AllocError, AllocFailed};
 use thiserror::Error;
 use viz_base::{Mem, Prop, Source};

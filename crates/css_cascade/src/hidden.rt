@@ -1,3 +1,4 @@
+//! Which nodes of a page are hidden, themselves or by a node around them.
 ghost use Rattle.std.specs.Prelude.{◌≡◌, ℕ, List as Seq, map, slice_get, length, IfOk, None, Ok, Some};
 ghost use Rattle.std.specs.List.{AllByRecursion};
 ghost use Rattle.viz_base.specs.Answers.{GivesOneOf};

@@ -1,3 +1,4 @@
+//! What all cascades have in common: a page has one at most.
 ghost use Rattle.std.specs.Prelude.{◌≡◌, ℕ, List as Seq, Result};
 ghost use Rattle.viz_base.specs.declared.nodes.Node.{Node};
 ghost use Rattle.viz_base.specs.declared.settings.Setting.{Setting};
@@ -14,7 +15,8 @@ pub fn one_cascade()
         → IsCascade nodes texts sheets b → a ≡ b }
 {}
 
-/// Law: the same of the cascade of a pseudo-element.
+/// Law: the pseudo-elements of the nodes of a page with these texts, read as these sheets, have at most one cascade, or
+/// are refused in one way.
 pub fn one_pseudo_cascade()
     ensures { (nodes : Seq Node) (texts : Seq (Seq ℕ)) (sheets : Seq Sheet) (which : Pseudo)
         (a b : Result (Seq (Seq Setting)) Fault) → IsPseudoCascade nodes texts sheets which a

@@ -1,3 +1,4 @@
+//! The buckets of words: of the tags, classes and ids that selectors ask for and elements have.
 ghost use Rattle.std.specs.Prelude.{◌≡◌, ◌<◌, ◌++◌, ◌∷◌, ℕ, List as Seq, OnOk, IfOk};
 ghost use Rattle.std.specs.List.{Contains};
 ghost use Rattle.css_semantics.specs.TokensLetters.{is_space};

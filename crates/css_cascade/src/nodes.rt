@@ -1,3 +1,4 @@
+//! What a node comes to by its winners: which are refused, whether it is hidden, and what those inside it take.
 ghost use Rattle.std.specs.Prelude.{◌≡◌, ◌≤◌, ◌^◌, ◌++◌, map, flat_map, option_map, IfOk, MatchResult};
 ghost use Rattle.std.specs.List.{list_any};
 ghost use Rattle.std.specs.Option.{option_to_list};

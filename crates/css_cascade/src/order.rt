@@ -1,3 +1,4 @@
+//! Which of two declarations of a property wins at a node (CSS 2.1, 6.4.1 and 6.4.3).
 ghost use Rattle.std.specs.Prelude.{◌≡◌, ◌<◌, map, flat_map, length, option_map, None, IfOk};
 ghost use Rattle.css_semantics.specs.CascadeOrder.{applied, cascade_cmp, later_of, place_of, spec_cmp, weight_number};
 ghost use Rattle.css_semantics.specs.Properties.{properties};
@@ -112,7 +113,7 @@ pub fn keep_claims<'a>(best: &mut Vec<Option<Applied<'a>>>, spec: Spec, claims: 
     }
 }
 
-/// The same for claims that stand elsewhere.
+/// Keeps the winners behind what claims that stand elsewhere say, with this specificity.
 pub fn keep_found<'a: 'b, 'b>(best: &mut Vec<Option<Applied<'b>>>, spec: Spec, claims: &[&'a Claim])
     requires { length best.old.items ≡ 40 }
     ensures len { length best.new.items ≡ 40 }

@@ -1,3 +1,4 @@
+//! Which words a page has, so that selectors that ask for others are left out before any node is looked at.
 ghost use Rattle.std.specs.Prelude.{◌≡◌, false, replicate, reverse, set, true, IfOk, OnOk};
 ghost use Rattle.std.specs.List.{list_any};
 ghost use Rattle.viz_base.specs.Selectors.{is_first};
@@ -114,7 +115,8 @@ fn is_first(join: Join) -> bool
     matches!(join, Join::First)
 }
 
-/// The same of this one and those before it. None before one that is joined as the first is looked at in matching.
+/// Whether a simple selector, or one before it, asks for a word that no element has. None before one that is joined as
+/// the first is looked at in matching.
 fn lacks_behind(present: &[bool], before: bool, join: Join, compound: &Compound) -> bool
     ensures { result ≡ lacks_behind present.now before join compound.now }
 {

@@ -1,3 +1,4 @@
+//! What wins at the pseudo-elements of a page's nodes, or why the page is refused.
 ghost use Rattle.std.specs.Prelude.{◌≡◌, ◌<◌, [], length, replicate, IfErr, IfOk, IfSome, MatchOption, Ok, Some};
 ghost use Rattle.std.specs.Prelude.{List as Seq};
 ghost use Rattle.css_semantics.specs.declared.claims.Ruleset.{Ruleset};

@@ -1,3 +1,4 @@
+//! The rulesets of style sheets: their selectors with specificities, and what their declarations say.
 ghost use Rattle.std.specs.Prelude.{◌≡◌, ◌+◌, ◌^◌, ◌≤◌, ◌<◌, ◌∷◌, ◌++◌, [], map, length, ℕ, IfErr, IfOk, IfSome, MatchOption, MatchResult, Ok, OnOk, Some};
 ghost use Rattle.std.specs.List.{AllByRecursion};
 ghost use Rattle.std.specs.Option.{option_to_list};

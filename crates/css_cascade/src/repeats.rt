@@ -1,3 +1,4 @@
+//! Whether one selector repeats another: tried again it adds nothing.
 ghost use Rattle.std.specs.Prelude.{◌≡◌, IsTrue};
 
 use css_semantics::Ranked;

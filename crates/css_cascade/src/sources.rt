@@ -1,3 +1,4 @@
+//! The text of a value, found by where the value stands.
 ghost use Rattle.std.specs.Prelude.{◌≡◌, ℕ, [], IfSome, List as Seq, option_map, slice_get};
 ghost use Rattle.std.specs.Option.{IfNone};
 ghost use Rattle.viz_base.specs.declared.settings.Source.TheVariants as of_source;

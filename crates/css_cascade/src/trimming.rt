@@ -1,3 +1,4 @@
+//! Rulesets without the claims that can't win, found once for all nodes.
 ghost use Rattle.std.specs.Prelude.{map, IfOk};
 ghost use Rattle.css_cascade.specs.steps.Trimming.{AreTrimmed, LastsAs};
 
@@ -11,6 +12,7 @@ use viz_base::{Mem, Spec};
 #[derive(Drop)]
 pub struct Trimmed<'a> {
     pub rules: &'a Ruleset,
+    /// The claims that can win.
     pub claims: Vec<&'a Claim>,
 }
 

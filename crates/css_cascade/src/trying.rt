@@ -1,3 +1,4 @@
+//! Tries the selectors that may match a node, and keeps the winners of what those that match say.
 ghost use Rattle.std.specs.Prelude.{◌≡◌, ◌++◌, ◌∷◌, ℕ, [], List as Seq, Some, flat_map, get_or, length, map, option_map, IfOk};
 ghost use Rattle.std.specs.List.{Contains};
 ghost use Rattle.css_semantics.specs.CascadeOrder.{greatest, later_of, spec_cmp};
@@ -18,6 +19,7 @@ use viz_base::{Element, List, Mem, Page, Spec};
 /// A ruleset that applies to a node, by its number, with the specificity of a selector that matches.
 #[derive(Clone, Copy)]
 pub struct Found {
+    /// The number of the ruleset.
     pub rules: usize,
     pub spec: Spec,
 }

@@ -1,3 +1,4 @@
+//! Adds nodes to the grown page: those that are written, and the generated ones.
 ghost use Rattle.std.specs.Prelude.{◌≡◌, ◌∷◌, ◌++◌, [], length, Some, OnOk};
 ghost use Rattle.page_pseudo.specs.Grown.{content, own_node, pseudo_element, pseudo_nodes, text_nodes};
 ghost use Rattle.page_pseudo.specs.steps.Seeds.{written};

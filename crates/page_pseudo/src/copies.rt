@@ -1,3 +1,4 @@
+//! Copies of bodies and settings: the grown page has its own.
 ghost use Rattle.std.specs.Prelude.{◌≡◌, IfOk};
 
 use std::alloc::Global;

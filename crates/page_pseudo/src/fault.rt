@@ -1,3 +1,4 @@
+//! Why a page doesn't grow.
 use std::alloc::{AllocError, AllocFailed};
 use thiserror::Error;
 use viz_base::Mem;

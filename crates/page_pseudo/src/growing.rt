@@ -1,3 +1,4 @@
+//! The page with its generated content, from what wins at its nodes and at their pseudo-elements.
 ghost use Rattle.std.specs.Prelude.{◌≡◌, length, IfOk};
 ghost use Rattle.viz_base.specs.Answers.{GivesOneOf};
 ghost use Rattle.css_semantics.specs.Winners.{AreWinners};

@@ -1,3 +1,4 @@
+//! What all growth has in common: a page grows to one page at most.
 ghost use Rattle.std.specs.Prelude.{◌≡◌, ℕ, Result};
 ghost use Rattle.page_pseudo.specs.Grown.{Written};
 ghost use Rattle.page_pseudo.specs.Growth.{Growth, IsGrowth};

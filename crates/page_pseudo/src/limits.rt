@@ -1,3 +1,4 @@
+//! Whether the pseudo-elements of a page have too many characters.
 ghost use Rattle.std.specs.Prelude.{◌≡◌, ◌+◌, ◌<◌, IfSome, MatchOption, MatchResult};
 ghost use Rattle.page_pseudo.specs.Growth.{refusal_of};
 ghost use Rattle.page_pseudo.specs.Limits.{IsTooMuch, IsWithin, made_at};

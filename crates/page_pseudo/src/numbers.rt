@@ -1,3 +1,4 @@
+//! The numbers of nodes.
 ghost use Rattle.std.specs.Prelude.{◌≡◌, ◌≤◌, ◌^◌, MatchResult};
 
 use viz_base::Mem;

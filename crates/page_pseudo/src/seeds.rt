@@ -1,3 +1,4 @@
+//! What the grown page is made from.
 ghost use Rattle.std.specs.Prelude.{◌≡◌, length};
 ghost use Rattle.page_pseudo.specs.Grown.{winners_at};
 
@@ -7,8 +8,11 @@ use viz_base::{Cascaded, Page, Setting};
 #[derive(Clone, Copy)]
 pub struct Seeds<'a> {
     pub page: &'a Page,
+    /// What wins at each node itself.
     pub own: &'a Cascaded,
+    /// What wins at the `:before` of each node.
     pub before: &'a Cascaded,
+    /// What wins at the `:after` of each node.
     pub after: &'a Cascaded,
 }
 

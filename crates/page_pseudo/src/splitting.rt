@@ -1,3 +1,4 @@
+//! The grown page made of its nodes, with what wins at each and its number on the page as it is written.
 ghost use Rattle.std.specs.Prelude.{◌≡◌, ◌∷◌, ◌++◌, [], map, IfOk, OnOk};
 ghost use Rattle.viz_base.specs.Pages.{IsPage};
 ghost use Rattle.page_pseudo.specs.declared.nodes.GrownNode.{GrownNode};

@@ -1,3 +1,4 @@
+//! Which text a pseudo-element has, and which nodes may have one.
 ghost use Rattle.std.specs.Prelude.{◌≡◌, length, option_map};
 ghost use Rattle.std.specs.Str.{chars};
 ghost use Rattle.css_semantics.specs.ComputedValues.{winner};

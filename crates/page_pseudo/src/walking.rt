@@ -1,3 +1,4 @@
+//! Goes through the nodes of a page, and adds what is generated before and after the content of each.
 ghost use Rattle.std.specs.Prelude.{◌≡◌, [], None, Some, ◌≤◌, get_or, length, slice_get, suc, IfOk, OnOk};
 ghost use Rattle.page_pseudo.specs.Grown.{Grow, children};
 ghost use Rattle.page_pseudo.specs.steps.Seeds.{written};
@@ -14,8 +15,11 @@ use viz_base::{Body, Mem, Node, Pseudo};
 /// that may go on, by its old number.
 #[derive(Drop)]
 pub struct Growing {
+    /// The nodes of the grown page.
     pub grown: Vec<GrownNode>,
+    /// The new numbers of the nodes that are written, by their old ones.
     pub numbers: Vec<u32>,
+    /// The old number of the innermost element that may go on.
     pub going: Option<u32>,
 }
 

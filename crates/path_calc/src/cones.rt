@@ -1,3 +1,4 @@
+//! The floors on which a row rests, and rows numbered anew as if there were no others.
 use lin_proof::{Row, RowFault};
 use std::alloc::{AllocError, Global};
 use sym_calc::{Floor, Floors};

@@ -1,3 +1,4 @@
+//! The numbers of one world, with a digest of the answers by which different layouts are told apart.
 ghost use Rattle.viz_calc.specs.Plain.{plain_state};
 
 use viz_base::World;

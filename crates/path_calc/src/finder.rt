@@ -1,3 +1,4 @@
+//! Finds each answer over all worlds of a path with its derivation, or leaves the row open.
 ghost use Rattle.std.specs.Prelude.{◌≡◌, ◌<ℤ◌, pos};
 
 use crate::cones::{cone_of, plus, renumbered, renumbered_floors};
@@ -43,7 +44,9 @@ pub struct Opening {
 pub struct Finder<'a> {
     footing: Footing<'a>,
     pool: &'a mut Pool,
+    /// The two facts of each floor behind those of the path, in order.
     rows: List<Row>,
+    /// The floors behind those of the path.
     floors: Floors,
     /// The facts of the path.
     ground: List<Row>,
@@ -52,9 +55,11 @@ pub struct Finder<'a> {
     /// The answers, known ones first.
     found: &'a mut Vec<Found>,
     ranks: Ranks,
+    /// The comparisons that were answered, in the order in which they were asked for.
     tape: Vec<Asked>,
     /// What the answers on the tape tell, as it is told to whoever reads them.
     told: Told,
+    /// The row that was left open, if one was.
     open: Option<Opening>,
     /// The row that was left open last, where the run looks for one behind it that is as good.
     ahead: Option<Row>,
@@ -172,7 +177,7 @@ impl<'a> Finder<'a> {
         self.answer(Floor { row, by: 1 })
     }
 
-    /// The same, but what was told before is not written once more.
+    /// Whether a row is at least 0, where an answer that was told before is not written once more.
     pub fn is_told_reached(&mut self, row: Row) -> Result<bool, Trouble> {
         if row.terms.is_empty() {
             return Ok(0 <= row.k);
@@ -253,7 +258,7 @@ impl<'a> Finder<'a> {
         }
     }
 
-    /// The same where the contrary of an answer is at no known world.
+    /// Keeps an answer whose contrary is at no known world, if it can be derived, or leaves its row open.
     fn decide(&mut self, row: &Row, yes: bool, cone: Vec<u32>) -> Result<(), Trouble> {
         match self.refuted(row, yes, cone.as_slice())? {
             Search::Found(why) => self.keep(yes, why, cone),

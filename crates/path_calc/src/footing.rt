@@ -1,3 +1,4 @@
+//! The path on which a run stands, with the counts by which its facts and variables are numbered.
 ghost use Rattle.std.specs.Prelude.{◌≡◌, ◌+◌, IfSome, length};
 ghost use Rattle.cert_semantics.specs.Axes.{axis_count};
 

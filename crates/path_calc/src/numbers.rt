@@ -1,3 +1,4 @@
+//! The numbers of a run, each the place of its row, since a layout copies numbers all the time.
 use crate::footing::Footing;
 use crate::trouble::Trouble;
 use cert_semantics::variable_of;
@@ -27,8 +28,11 @@ pub const HEIGHT: Number = Number { place: 3 };
 /// A multiple of a number, divided and rounded down.
 #[derive(Clone, Copy, PartialEq, Eq, Hash)]
 pub struct Scaling {
+    /// The number.
     pub number: Number,
+    /// By what it is multiplied.
     pub num: i64,
+    /// By what the multiple is divided.
     pub den: u64,
 }
 

@@ -1,3 +1,4 @@
+//! Known worlds of a path: where two of them show both signs of a row, it is left open at no cost.
 use crate::values::{floor_of, value_of};
 use cert_semantics::{along, axis_count, axis_of, variable_of};
 use lin_proof::Row;
@@ -7,7 +8,7 @@ use viz_base::{Axis, Mem, Rect, World};
 /// A world of a path, with what the path's variables are there: the numbers on the axes, and the floors.
 #[derive(Drop)]
 pub struct Known {
-    /// By the variables' numbers.
+    /// What the variables are, by their numbers.
     pub values: Vec<i128>,
 }
 
@@ -104,7 +105,7 @@ impl Known {
 }
 
 impl Pool {
-    /// No worlds.
+    /// A pool without worlds.
     pub fn new(alloc: Global) -> Self {
         Pool {
             worlds: Vec::new(alloc),

@@ -1,3 +1,4 @@
+//! Copies of an answer and its derivation, with facts and variables numbered as they are where it stands again.
 use crate::cones::plus;
 use crate::trail::{Found, Spot};
 use lin_proof::{Answer, Branch, Derivation, Ending, Row, RowFault, Step};

@@ -1,3 +1,4 @@
+//! The calc over all worlds of a path that answers comparisons itself, and halts at the first without an answer.
 ghost use Rattle.path_calc.specs.steps.Seekers.{seeker_state, number_at};
 
 use crate::finder::{Finder, Opening};
@@ -19,7 +20,9 @@ pub struct Seeker<'a> {
     numbers: Numbers,
     /// Whether a mistake of the search ended the run.
     is_lost: bool,
+    /// How often a number was too large, or a mistake of the search was met.
     coeffs: u64,
+    /// How often a comparison was left open.
     opens: u64,
 }
 

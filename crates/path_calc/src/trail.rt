@@ -1,3 +1,4 @@
+//! Answers that were found, and the floors on which they rest, by ranks that stay the same below a split.
 use crate::trouble::Trouble;
 use lin_proof::Derivation;
 use std::alloc::Global;
@@ -21,9 +22,9 @@ pub struct Found {
 /// Floors behind those of a path, in their order.
 #[derive(Drop)]
 pub struct Cone {
-    /// Their places.
+    /// The places of these floors behind the path.
     pub places: Vec<u32>,
-    /// Their ranks.
+    /// The ranks of these floors in the run.
     pub ranks: Vec<u32>,
 }
 
@@ -40,16 +41,16 @@ pub enum Spot {
 /// floors of the run that led to it, whichever of them are named meanwhile.
 #[derive(Drop)]
 pub struct Ranks {
-    /// By their ranks.
+    /// Where each floor that was used stands, by the floors' ranks.
     pub spots: Vec<Spot>,
     /// Whether the floors on the path were used yet, by their places.
     used: Vec<bool>,
-    /// The ranks of the others, by their places.
+    /// The ranks of the floors behind the path, by their places.
     new: Vec<u32>,
 }
 
 impl Ranks {
-    /// None was used yet of those that the path names.
+    /// The ranks of a run that has used no floor yet, on a path that names so many.
     pub fn new(alloc: Global, named: usize) -> Result<Self, Mem> {
         Ok(Ranks {
             spots: Vec::new(alloc),
@@ -82,7 +83,7 @@ impl Ranks {
         Ok(true)
     }
 
-    /// The floors at these places behind the path.
+    /// The cone of the floors at these places behind the path.
     pub fn cone_at(&self, alloc: Global, places: Vec<u32>) -> Result<Cone, Trouble> {
         let mut ranks = Vec::new(alloc);
         for place in &places {

@@ -1,3 +1,4 @@
+//! Why a run has no number or no answer.
 use lin_proof::RowFault;
 use std::alloc::{AllocError, AllocFailed};
 use viz_base::Mem;

@@ -1,3 +1,4 @@
+//! What rows and floors are at given values of the variables.
 use lin_proof::Row;
 
 /// The value of a row at values of the variables, by their numbers. None where a number on the way is outside `i128`,
@@ -11,7 +12,8 @@ pub fn value_of(row: &Row, values: &[i128]) -> Option<i128> {
     Some(sum)
 }
 
-/// A row's value divided by a number above 0 and rounded down. None also for another number.
+/// The value of a row at values of the variables, divided by a number above 0 and rounded down. None where the row has
+/// no value, or for another number.
 pub fn floor_of(row: &Row, by: i128, values: &[i128]) -> Option<i128> {
     let value = value_of(row, values)?;
     if by > 0 {

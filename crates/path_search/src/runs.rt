@@ -1,3 +1,4 @@
+//! Runs of a page's layout and its formula over a calc, and what one over all worlds of a path comes to.
 use lay_flow::render;
 use lin_proof::Answer;
 use path_calc::{Opening, Seeker};

@@ -1,3 +1,4 @@
+//! An estimate of how many different layouts a rectangle has, by a sample: where they are many, no tree is tried.
 use crate::runs::truth_over;
 use crate::seeking::count_of;
 use path_calc::Digesting;

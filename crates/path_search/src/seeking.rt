@@ -1,3 +1,4 @@
+//! The search for nodes: a page is laid out over a path, which is split by the row that is left open.
 ghost use Rattle.std.specs.Prelude.{◌≡◌, ◌≤◌};
 
 use crate::heights::{flattened, is_flat, rests_on_height};
@@ -126,7 +127,7 @@ pub struct Part {
 }
 
 impl Part {
-    /// The same below one more node.
+    /// The part below one more node.
     pub fn lower(self) -> Result<Part, Stop> {
         match self.depth.checked_sub(1) {
             Some(depth) => Ok(Part {
@@ -145,7 +146,7 @@ pub const GRID: u64 = 64;
 // A certificate's text takes 512 levels.
 const DEPTH: u32 = 480;
 
-/// How many of them are kept for halvings.
+/// How many of the nodes that may stand in one another are kept for halvings.
 const HALVINGS: u32 = 60;
 
 /// Searches for a certificate of a job, or for a world of its range at which its formula is false.
@@ -382,7 +383,7 @@ fn has_room(depth: u32, floors: &[Floor]) -> bool {
     (depth.saturating_sub(HALVINGS) as usize) > floors.len()
 }
 
-/// The same row where it is no row of one axis alone; else one with the coefficient 1 or -1 and the same signs.
+/// A row of the same signs: one with the coefficient 1 or -1 for a row of one axis alone, and else the row itself.
 pub fn cut_once(alloc: Global, form: u8, row: &Row) -> Result<Row, Stop> {
     // A row of one axis cuts the rectangle only with the coefficient 1 or -1, and its grids are smaller then.
     let unit = match row.terms.as_slice() {

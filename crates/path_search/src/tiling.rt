@@ -14,6 +14,7 @@ struct Sides {
 /// Where a rectangle is cut in two.
 #[derive(Clone, Copy)]
 pub struct Cut {
+    /// The axis on which it is cut.
     pub axis: Axis,
     /// The greatest number on the axis in the first part.
     pub last: u32,
@@ -158,7 +159,7 @@ pub fn cut_of_tiles(rect: Rect) -> Cut {
     cut_of_strips(rect, (GRID / together.max(1)).max(1))
 }
 
-/// The same between sizes or widths, where a grid has so many worlds of one height.
+/// Where a rectangle is cut between sizes or widths so that few grids cover it, each with so many worlds of one height.
 fn cut_of_strips(rect: Rect, grid: u64) -> Cut {
     let sides = sides_of(rect);
     let together = sizes_together(sides, grid);

@@ -1,3 +1,4 @@
+//! Proves a job with a number of turns: by the search where its finding is confirmed, else by halves and grids.
 ghost use Rattle.std.specs.Prelude.{◌≡◌, ◌*◌, ◌+◌, ◌^◌, ◌≤◌, IfOk};
 ghost use Rattle.viz_base.specs.Worlds.{world_count};
 ghost use Rattle.cert_check.specs.Truths.{Holds};

@@ -1,3 +1,4 @@
+//! What is found of a job.
 use viz_base::{Rect, World};
 
 /// What was found of a job.

@@ -1,3 +1,4 @@
+//! The search by halves and grids, which decides every job with enough turns.
 ghost use Rattle.std.specs.Prelude.{◌≡◌, ◌*◌, ◌+◌, ◌<◌, ◌≤◌, IsTrue, IfOk};
 ghost use Rattle.cert_text.specs.declared.certificate.CertNode.TheVariants.{Split};
 ghost use Rattle.cert_text.specs.Texts.{job_has_text};
@@ -23,6 +24,7 @@ pub const MOST_WORLDS: u64 = 64;
 /// A rectangle that is decided: the formula is true at each of its worlds.
 #[derive(Drop)]
 pub struct Closed {
+    /// The node that decides it.
     pub node: CertNode,
     /// The turns that are left.
     pub left: u64,
@@ -31,8 +33,11 @@ pub struct Closed {
 /// Why a rectangle is not closed.
 #[derive(Drop)]
 pub enum Stop {
+    /// Want of memory, and nothing else.
     Mem,
+    /// The formula is false at this world of the rectangle.
     Violated(World),
+    /// The turns did not do; this part of the rectangle is open yet.
     Undecided(Rect),
 }
 
